@@ -7,14 +7,17 @@ import signal
 from typing import TYPE_CHECKING, Callable, NamedTuple, Sequence
 
 from . import output
+from .cluster import share, time_left
 from .config.arguments import OF_PLAY, Words, processors
-from .config.folder import Folder, make_folders, plan_for, read_plan, write_plan
+from .config.changes import Folder, plan_for, warning_of
 from .config.help import HELP
-from .config.plan import Plan, number, seconds, share, time_left
-from .model import State
+from .config.plan_file import read_plan, write_plan
+from .config.values import number, seconds
+from .model import Plan, State
 from .output import STDERR, STDOUT, Mistake
 from .play.programs import find_twogtp, try_options
 from .store import results
+from .store.layout import make_folders
 
 if TYPE_CHECKING:
     from .config.openings import Opening
@@ -60,7 +63,7 @@ def prepare(words: Words) -> Prepared:
     for name, read in (("--jobs", number), ("--task", share), ("--time-left", time_left)):
         words.last(name, read)
     place = words.places[0]
-    before = read_plan(place).same_games() if os.path.exists(f"{place}/plan") else ""
+    before = warning_of(read_plan(place)) if os.path.exists(f"{place}/plan") else ""
     folder = plan_for(asked, is_given, place)
     twogtp = find_twogtp()
     try_options(twogtp, folder.plan.options)
@@ -68,13 +71,15 @@ def prepare(words: Words) -> Prepared:
         from .config.openings import check  # which isn't needed elsewhere
 
         check(openings, folder.plan.options)
-    warning = folder.plan.same_games()
+    warning = warning_of(folder.plan)
     return Prepared(folder, twogtp, "" if warning == before else warning)
 
 
 def write(prepared: Prepared) -> None:
     """Writes the plan into its folder, and the warning."""
-    write_plan(prepared.folder)
+    folder = prepared.folder
+    make_folders(folder.place)
+    write_plan(folder.plan, folder.place, folder.before)
     if prepared.warning:
         output.report(prepared.warning)
 

@@ -1,10 +1,17 @@
-"""What a tournament is made of: engines, games, their results, and how games end."""
+"""What a tournament is made of: a plan with engines and games, their results, and how games end."""
 from __future__ import annotations
 
 import enum
-from typing import NamedTuple
+import re
+from typing import Iterator, NamedTuple, Sequence
+
+from .output import Mistake
 
 COLOURS = ("black", "white")  # the names of both sides
+COLUMNS = "ABCDEFGHJKLMNOPQRSTUVWXYZ"
+NAME = re.compile(r"[A-Za-z0-9][A-Za-z0-9.+-]{0,39}")  # of an engine
+MOST_GAMES = 10**9
+LONGEST_SEED = 7  # digits
 FORFEITS = ("illegal move", "no vertex", "no move", "refused play")  # the causes that twogtp has
 
 
@@ -37,6 +44,117 @@ class Engine(NamedTuple):
     def has_seed(self) -> bool:
         """Returns whether its command has the seed of the game."""
         return "%s" in self.command
+
+    def words(self, is_direct: bool) -> list[str]:
+        """Returns the words of its command: as a shell splits it, or directly as twogtp does."""
+        if is_direct:
+            return [word for word in self.command.split(" ") if word]
+        import shlex  # which isn't needed elsewhere
+
+        try:
+            words = shlex.split(self.command)
+        except ValueError as error:
+            text = f"the command of {self.name} can't be split into words: {error}"
+            raise Mistake(text) from None
+        if not words or not words[0]:
+            raise Mistake(f"{self.name} has no command")
+        return words
+
+
+class Plan:
+    """A plan, or what the arguments say of one."""
+
+    def __init__(self) -> None:
+        self.engines: dict[str, Engine] = {}  # by their names
+        self.gauntlet: str | None = None  # the engine that each game has, if one is in all
+        self.options: list[str] = []  # of twogtp
+        self.seeds: int | None = None
+        self.limit: int | None = None  # seconds of a game
+        self.folder: str | None = None  # in which engines start; None in a plan of earlier scripts
+        self.is_direct = False  # whether twogtp itself starts the engines
+        self.start_limit: str | None = None  # seconds, as they are written
+        self.move_limit: str | None = None
+        self.openings: list[str] = []  # the moves of each, with spaces between them
+        self.known_games: Games | None = None
+
+    def add_engine(self, name: str, command: str) -> None:
+        """Adds an engine."""
+        if not NAME.fullmatch(name):
+            raise Mistake(
+                "an engine's name may have letters, digits, . + and -, at most 40 of them, unlike "
+                f"'{name}'"
+            )
+        if not command.strip(" "):
+            raise Mistake(f"{name} has no command")
+        if "\n" in command:
+            raise Mistake(f"the command of {name} has more than one line")
+        if name in self.engines:
+            raise Mistake(f"two engines are named {name}: give each its own name")
+        self.engines[name] = Engine(name, command)
+
+    def opening(self, seed: int) -> str | None:
+        """Returns the moves with which the games of a seed begin: of one opening after the other,
+        and then of the first again. None without openings."""
+        return self.openings[(seed - 1) % len(self.openings)] if self.openings else None
+
+    def is_old(self) -> bool:
+        """Returns whether it is one of earlier scripts, which started engines directly, and in the
+        working directory."""
+        return self.folder is None
+
+    def has_boards(self) -> bool:
+        """Returns whether twogtp writes the last board into each result."""
+        return "--show" in self.options
+
+    def games(self) -> Games:
+        """Returns the games of the plan."""
+        if self.gauntlet is not None and self.gauntlet not in self.engines:
+            example = next(iter(self.engines))
+            raise Mistake(
+                f"--gauntlet needs the name of an engine, such as {example}, and not "
+                f"'{self.gauntlet}'"
+            )
+        if self.known_games is None:
+            self.known_games = Games(list(self.engines), self.seeds or 0, self.gauntlet)
+        return self.known_games
+
+
+class Games:
+    """The names of all games, SEED_BLACK_WHITE, each of which has a number from 0 up."""
+
+    def __init__(self, engines: Sequence[str], seeds: int, gauntlet: str | None = None) -> None:
+        # of a seed, in the plan's order: each two engines, with both colours
+        self.sides = [
+            sides
+            for at, one in enumerate(engines)
+            for other in engines[at + 1 :]
+            if gauntlet in (None, one, other)
+            for sides in ((one, other), (other, one))
+        ]
+        self.of_seed = ["_".join(sides) for sides in self.sides]
+        self.index = {name: at for at, name in enumerate(self.of_seed)}
+        self.seeds = seeds
+        self.count = seeds * len(self.sides)
+        if self.count > MOST_GAMES:
+            raise Mistake(f"{seeds} seeds are {self.count} games, which are too many")
+
+    def __iter__(self) -> Iterator[str]:
+        return (f"{seed}_{sides}" for seed in range(1, self.seeds + 1) for sides in self.of_seed)
+
+    def name(self, game: int) -> str:
+        """Returns the name of the game with this number."""
+        seed, at = divmod(game, len(self.sides))
+        return f"{seed + 1}_{self.of_seed[at]}"
+
+    def number(self, name: str) -> int | None:
+        """Returns the number of the game with this name; None where the plan has none."""
+        seed, _, sides = name.partition("_")
+        at = self.index.get(sides)
+        if at is None or not seed.isascii() or not seed.isdigit() or seed[0] == "0":
+            return None
+        if len(seed) > LONGEST_SEED or int(seed) > self.seeds:
+            return None
+        return (int(seed) - 1) * len(self.sides) + at
 
 
 class GameId(NamedTuple):

@@ -4,8 +4,9 @@ from __future__ import annotations
 
 import re
 
+from ..model import COLUMNS
+
 EMPTY, BLACK, WHITE, EDGE = range(4)  # the bytes of a board
-COLUMNS = "ABCDEFGHJKLMNOPQRSTUVWXYZ"
 WIDTH = 27  # of a row with its edge: a board has 25 columns at most
 VERTEX = re.compile("([A-HJ-Z])([1-9]|1[0-9]|2[0-5])")
 PASS = "pass"

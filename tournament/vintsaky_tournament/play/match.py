@@ -8,14 +8,13 @@ import sys
 from typing import TYPE_CHECKING
 
 from .. import output
-from ..model import COLOURS, GameId, Side
+from ..model import COLOURS, GameId, Plan, Side
 from ..store import notes, results
 from . import programs
 
 if TYPE_CHECKING:
     from types import CodeType
 
-    from ..config.plan import Plan
     from ..store.layout import Places
     from ..store.notes import Notes
 
@@ -34,7 +33,9 @@ class Match:
     def __init__(self, plan: Plan, twogtp: str) -> None:
         self.plan, self.twogtp = plan, twogtp
         self.limit, self.rule, self.is_direct = plan.limit or 0, results.Rule(plan), plan.is_direct
-        self.commands = {name: plan.words(name) for name in plan.engines}
+        self.commands = {
+            name: engine.words(plan.is_direct) for name, engine in plan.engines.items()
+        }
         self.folder = os.getcwd() if plan.folder is None else plan.folder
         self.between = programs.between()
         self.code: bytes | None = None

@@ -5,17 +5,14 @@ from __future__ import annotations
 import os
 import signal
 import time
-from typing import TYPE_CHECKING, NamedTuple
+from typing import NamedTuple
 
 from .. import output, processes
-from ..model import Outcome, Result
+from ..model import Outcome, Plan, Result
 from ..store.layout import InTheWay, Places
 from . import process_tree
 from .game import ENDING, SAME, play_here, report
 from .match import Match
-
-if TYPE_CHECKING:
-    from ..config.plan import Plan
 
 
 class Playing(NamedTuple):

@@ -10,18 +10,18 @@ from collections import Counter
 from typing import TYPE_CHECKING, Iterable, Iterator, Sequence
 
 from .. import output
-from ..config.folder import Folder, make_folders
-from ..model import GameId, Outcome, Result, State
+from ..config.changes import Folder
+from ..model import GameId, Outcome, Plan, Result, State
 from ..output import NoStart
 from ..store import results
-from ..store.layout import InTheWay, Places, Taken, clear_running
+from ..store.layout import InTheWay, Places, Taken, clear_running, make_folders
 from .game import no_result
 from .progress import Progress
 from .run import Run
 from .trials import Tried
 
 if TYPE_CHECKING:
-    from ..config.plan import Plan, Share
+    from ..cluster import Share
 
 AGAIN = 3  # seconds for which games are tried that another process holds, which may be about to end
 PAUSE = 0.2  # seconds between two such tries

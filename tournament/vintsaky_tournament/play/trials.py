@@ -25,7 +25,7 @@ from . import programs
 from .trial import Passed, Report, Trial, limits_of, report_of
 
 if TYPE_CHECKING:
-    from ..config.plan import Plan
+    from ..model import Plan
     from .run import Run
 
 PAUSE = 0.2  # seconds between two looks whether another process has ended its trials

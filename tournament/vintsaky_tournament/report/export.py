@@ -10,9 +10,9 @@ import os
 from typing import TYPE_CHECKING, Iterable, Iterator, NamedTuple, Sequence
 
 from .. import output
-from ..config.folder import read_plan
-from ..config.plan import Share
-from ..model import FORFEITS, Ending, Result, Way
+from ..cluster import Share
+from ..config.plan_file import read_plan
+from ..model import FORFEITS, Ending, Plan, Result, Way
 from ..output import Mistake
 from ..play.trials import versions_of
 from ..stats.endings import Endings, losing_ways
@@ -21,7 +21,6 @@ from . import sgf
 
 if TYPE_CHECKING:
     from ..config.arguments import Words
-    from ..config.plan import Plan
 
 ALL = Share(1, 1)
 LONGEST_HOST = 64  # characters

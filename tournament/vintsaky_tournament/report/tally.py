@@ -8,8 +8,8 @@ from typing import Iterator, Sequence
 
 from .. import output
 from ..config.arguments import Words
-from ..config.folder import read_plan
 from ..config.help import HELP
+from ..config.plan_file import read_plan
 from ..model import Side, Way
 from ..output import Mistake
 from ..stats import scores

@@ -3,13 +3,12 @@ from __future__ import annotations
 
 from typing import TYPE_CHECKING, Collection, NamedTuple
 
-from ..model import COLOURS, SIDES, Ending, Result, Way
+from ..model import COLOURS, SIDES, Ending, Plan, Result, Way
 from ..output import Mistake
 from ..store import notes
 
 if TYPE_CHECKING:
     from ..config.arguments import Words
-    from ..config.plan import Plan
 
 WITHOUT_WINNER = {"0": Way.DRAWN, "limit": Way.LIMIT}
 

@@ -11,14 +11,11 @@ from __future__ import annotations
 import enum
 from array import array
 from collections import Counter, defaultdict
-from typing import TYPE_CHECKING, Iterable, Mapping, NamedTuple, Sequence
+from typing import Iterable, Mapping, NamedTuple, Sequence
 
-from ..model import Ending, Result, Side, Way
+from ..model import Ending, Plan, Result, Side, Way
 from . import scores
 from .scores import Cluster
-
-if TYPE_CHECKING:
-    from ..config.plan import Plan
 
 SHORT = 20  # moves up to which games may be the same by chance
 

@@ -9,7 +9,7 @@ from . import scores
 
 if TYPE_CHECKING:
     from ..config.arguments import Words
-    from ..config.plan import Plan
+    from ..model import Plan
     from .pairs import Pairs
 
 MOST = 800  # Elo of a difference: tests of greater ones weren't simulated

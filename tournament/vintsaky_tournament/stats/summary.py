@@ -4,15 +4,12 @@ from __future__ import annotations
 import contextlib
 import os
 from collections import Counter
-from typing import TYPE_CHECKING, Collection, Iterator, NamedTuple, Sequence
+from typing import Collection, Iterator, NamedTuple, Sequence
 
-from ..model import FORFEITS, SIDES, Ending, Side, State, Way
+from ..model import FORFEITS, SIDES, Ending, Plan, Side, State, Way
 from ..store import results
 from .endings import Endings
 from .pairs import Found, Pairs
-
-if TYPE_CHECKING:
-    from ..config.plan import Plan
 
 OTHERS_TO_LOOK_INTO = (Way.UNFIT, Way.ABANDONED, Way.LATE, Way.TIME)
 PREFIX = "tournament: "  # of the line of a log that says why a game has no result

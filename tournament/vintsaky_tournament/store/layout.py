@@ -24,6 +24,12 @@ CHUNK = 65536
 TRIES = 100  # to make a file in a folder that others remove
 
 
+def make_folders(folder: str) -> None:
+    """Makes the folders of a tournament that aren't there."""
+    for name in ("games", "logs", "notes", "running"):
+        os.makedirs(f"{folder}/{name}", exist_ok=True)
+
+
 class Taken(Exception):
     """Another process plays the game."""
 

@@ -12,12 +12,11 @@ import re
 from typing import TYPE_CHECKING, Iterator, NamedTuple
 
 from .. import output
-from ..config.rules import COLUMNS
 from ..config.setup import Setup
-from ..model import FORFEITS, Result, State
+from ..model import COLUMNS, FORFEITS, Plan, Result, State
 
 if TYPE_CHECKING:
-    from ..config.plan import Plan, Share
+    from ..cluster import Share
 
 OTHER_VERDICTS = (
     *("limit", "B+R", "W+R"),

@@ -1,15 +1,15 @@
-"""The plan in a tournament's folder: how it is read, joined with what is asked for, and written."""
+"""A plan that is changed: what is asked for is joined with what a folder has."""
 from __future__ import annotations
 
 import os
 from typing import NamedTuple
 
+from ..model import Plan
 from ..output import Mistake
-from .plan import OPENING, Plan, number, seconds
+from .plan_file import ELSEWHERE, fixed_lines, parse, read_text
 
 SEEDS, LIMIT, START_LIMIT = 10, 600, "60"  # of a plan that doesn't say otherwise
 TWO_ENGINES = "name two engines or more: --engine NAME=CMD --engine NAME=CMD"
-ELSEWHERE = "take another directory"
 
 
 class Folder(NamedTuple):
@@ -25,63 +25,6 @@ class Folder(NamedTuple):
     def is_new(self) -> bool:
         """Returns whether it has no plan yet."""
         return self.before is None
-
-
-def add_line(plan: Plan, line: str, place: str) -> None:
-    """Adds a line of the file in this place to a plan."""
-    kind, _, rest = line.partition(" ")
-    if kind == "engine" and " " in rest:
-        plan.add_engine(*rest.split(" ", 1))
-    elif kind == "gauntlet":
-        plan.gauntlet = rest
-    elif kind == "option" and line != kind:
-        plan.options.append(rest)
-    elif kind == "seeds":
-        plan.seeds = number(f"seeds of {place}", rest)
-    elif kind == "limit":
-        plan.limit = number(f"limit of {place}", rest)
-    elif kind == "folder" and rest:
-        plan.folder = rest
-    elif line == "direct":
-        plan.is_direct = True
-    elif kind == "start-limit":
-        plan.start_limit = seconds(f"start-limit of {place}", rest)
-    elif kind == "move-limit":
-        plan.move_limit = seconds(f"move-limit of {place}", rest)
-    elif kind == "opening" and OPENING.fullmatch(rest):
-        plan.openings.append(rest)
-    else:
-        raise Mistake(f"{place} has a line that isn't known: {line}")
-
-
-def read_text(place: str) -> bytes:
-    """Returns the bytes of a plan's file."""
-    try:
-        with open(place, "rb") as file:
-            return file.read()
-    except FileNotFoundError:
-        raise Mistake(f"there is no {place}: tournament plan makes it") from None
-    except OSError as error:
-        raise Mistake(f"{place} can't be read: {error.strerror}") from None
-
-
-def parse(text: bytes, place: str) -> Plan:
-    """Returns the plan of a file in this place."""
-    plan, lines = Plan(), os.fsdecode(text).split("\n")
-    for line in lines if lines[-1] else lines[:-1]:
-        add_line(plan, line, place)
-    if len(plan.engines) < 2 or not plan.seeds or not plan.limit:
-        raise Mistake(f"{place} lacks engines, seeds or the limit")
-    plan.is_direct = plan.is_direct or plan.is_old()
-    if plan.openings and plan.is_direct:
-        raise Mistake(f"{place} has openings, which aren't played directly")
-    return plan
-
-
-def read_plan(folder: str) -> Plan:
-    """Returns the plan of a folder."""
-    place = f"{folder}/plan"
-    return parse(read_text(place), place)
 
 
 def plan_for(asked: Plan, is_given: bool, place: str) -> Folder:
@@ -104,7 +47,7 @@ def plan_for(asked: Plan, is_given: bool, place: str) -> Folder:
     plan = folder.plan
     plan.seeds, plan.limit = asked.seeds or plan.seeds or SEEDS, asked.limit or plan.limit or LIMIT
     plan.start_limit = asked.start_limit or plan.start_limit
-    plan.check()
+    check(plan)
     return folder
 
 
@@ -116,8 +59,8 @@ def joined(asked: Plan, is_given: bool, place: str) -> Folder:
     check_limits(plan, asked, place)
     check_gauntlet(plan, asked, place)
     more = complete(plan, asked, is_given)
-    if is_given and not asked.continues(plan):
-        is_same = sorted(plan.shown()) == sorted(asked.shown())
+    if is_given and not continues(asked, plan):
+        is_same = sorted(shown_lines(plan)) == sorted(shown_lines(asked))
         other = "the same in another order" if is_same else "other engines or options"
         raise Mistake(
             f"{place} was begun with {other}. It has\n{difference(plan, asked)}\n"
@@ -141,7 +84,7 @@ def joined(asked: Plan, is_given: bool, place: str) -> Folder:
 def complete(plan: Plan, asked: Plan, is_given: bool) -> list[str]:
     """Adds to what is asked for what the plan has more of: engines, and seeds. Returns these."""
     more = []
-    if is_given and asked.is_part_of(plan):
+    if is_given and is_part_of(asked, plan):
         more = [name for name in plan.engines if name not in asked.engines]
         asked.engines = dict(plan.engines)
     if asked.seeds and plan.seeds and asked.seeds < plan.seeds:
@@ -177,7 +120,7 @@ def difference(plan: Plan, asked: Plan) -> str:
     """Returns the lines that differ of a plan and of what is asked for."""
     import difflib  # which isn't needed elsewhere
 
-    old, new = plan.shown(), asked.shown()
+    old, new = shown_lines(plan), shown_lines(asked)
     if sorted(old) == sorted(new):
         return "\n".join([*old, "where the command has", *new])
     opcodes = difflib.SequenceMatcher(None, old, new, False).get_opcodes()
@@ -215,56 +158,56 @@ def check_gauntlet(plan: Plan, asked: Plan, folder: str) -> None:
         raise Mistake(f"{folder} was begun {old}: {ELSEWHERE}")
 
 
-def make_folders(folder: str) -> None:
-    """Makes the folders of a tournament that aren't there."""
-    for name in ("games", "logs", "notes", "running"):
-        os.makedirs(f"{folder}/{name}", exist_ok=True)
-
-
-def write_plan(folder: Folder) -> None:
-    """Makes the folder and its plan, unless they are there. The plan is written under another name,
-    and moved."""
-    place = f"{folder.place}/plan"
-    new_place = f"{place}.new.{os.getpid()}"
-    make_folders(folder.place)
-    text = os.fsencode(folder.plan.text())
-    if os.path.exists(place):
-        with open(place, "rb") as file:
-            found = file.read()
-        if found == text:
-            return
-        if folder.before not in (None, found):  # the trial of an engine takes its time
-            raise Mistake(
-                f"{place} was changed by another run at the same time: give the command again"
-            )
-    try:
-        with open(new_place, "wb") as file:
-            file.write(text)
-            file.flush()
-            os.fsync(file.fileno())
-        if folder.is_new:
-            put_new(new_place, place)
+def shown_lines(plan: Plan) -> list[str]:
+    """Returns the lines that may not change, for people: an option and its value are one."""
+    lines: list[str] = []
+    for line in fixed_lines(plan):
+        is_value = line.startswith("option ") and not line.startswith("option --")
+        if is_value and lines and lines[-1].startswith("option "):
+            lines[-1] += line[len("option") :]
         else:
-            os.replace(new_place, place)
-    except OSError as error:
-        if os.path.exists(new_place):
-            os.unlink(new_place)
-        raise OSError(error.errno, f"it can't be written: {error.strerror}", place) from None
+            lines.append(line)
+    return lines
 
 
-def put_new(new_place: str, place: str) -> None:
-    """Moves a new plan to its place. Of two runs that begin a folder at once, one makes it."""
-    try:
-        os.link(new_place, place)
-    except FileExistsError:
-        with open(new_place, "rb") as mine, open(place, "rb") as other:
-            is_same = mine.read() == other.read()
-        os.unlink(new_place)
-        if not is_same:
-            raise Mistake(
-                f"{place} was made by another run at the same time: {ELSEWHERE}"
-            ) from None
-    except OSError:  # a file system without links
-        os.replace(new_place, place)
-    else:
-        os.unlink(new_place)
+def continues(plan: Plan, old: Plan) -> bool:
+    """Returns whether a plan has all of an older one that may not change. It may have more engines
+    after those."""
+    ours, theirs = list(plan.engines.values()), list(old.engines.values())
+    has_engines = ours[: len(theirs)] == theirs
+    return has_engines and fixed_lines(plan)[len(ours) :] == fixed_lines(old)[len(theirs) :]
+
+
+def is_part_of(plan: Plan, whole: Plan) -> bool:
+    """Returns whether a plan has some engines of another one, in the same order, and all else that
+    may not change."""
+    common = [engine for engine in whole.engines.values() if engine.name in plan.engines]
+    if not common or common != list(plan.engines.values()):
+        return False
+    return fixed_lines(plan)[len(common) :] == fixed_lines(whole)[len(whole.engines) :]
+
+
+def check(plan: Plan) -> None:
+    """Raises Mistake where something is wrong that nothing else looks at."""
+    fixed_lines(plan)
+    plan.games()
+    if "\n" in (plan.folder or ""):
+        raise Mistake(f"the name of the directory {plan.folder} has more than one line")
+    for engine in plan.engines.values():
+        engine.words(plan.is_direct)
+
+
+def warning_of(plan: Plan) -> str:
+    """Returns a warning of engines that play the same games again, unless they draw by themselves:
+    their commands don't have the seed. An empty text where no games repeat."""
+    fixed = {engine.name for engine in plan.engines.values() if not engine.has_seed()}
+    sides = [engines for engines in plan.games().sides if fixed.issuperset(engines)]
+    names = [name for name in plan.engines if any(name in engines for engines in sides)]
+    seeds = plan.seeds or 0
+    if not names or seeds <= (len(set(plan.openings[:seeds])) or 1):
+        return ""
+    which = "all seeds with the same opening" if plan.openings else "all seeds"
+    return (
+        f"{', '.join(names[:-1])} and {names[-1]} have no %s, the seed, in their commands: unless "
+        f"they choose at random by themselves, {which} give the same games, which tally counts once"
+    )

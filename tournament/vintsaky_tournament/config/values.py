@@ -1,0 +1,20 @@
+"""The values of options and of a plan's lines."""
+from __future__ import annotations
+
+import re
+
+from ..output import Mistake
+
+
+def number(option: str, text: str) -> int:
+    """Returns the number of an option, from 1 up."""
+    if not re.fullmatch("[1-9][0-9]{0,6}", text):
+        raise Mistake(f"{option} needs a number from 1 to 9999999, and not '{text}'")
+    return int(text)
+
+
+def seconds(option: str, text: str) -> str:
+    """Returns the seconds of an option, above 0 and as they are written."""
+    if not re.fullmatch(r"[0-9]{1,7}(\.[0-9]{1,6})?", text) or not float(text):
+        raise Mistake(f"{option} needs seconds above 0, such as 60 or 0.5, and not '{text}'")
+    return text
