@@ -6,7 +6,9 @@ docs/matches.md and docs/protocol.md.
 from __future__ import annotations
 
 from dataclasses import dataclass
-from typing import Optional, Tuple, Union
+from typing import Optional, Union
+
+from tests.references.engine.values import BLACK, WHITE, Colour
 
 PASSES = "gtp_engine --policy book"  # its book is empty
 SETUP = "1 boardsize 9\n2 komi 6.5\n3 clear_board\n"  # what an engine is sent first
@@ -32,7 +34,7 @@ ALL_UNANSWERED = '3 unanswered, the first "1 boardsize 9"'
 class Spoken:
     """What a program writes to its standard error when it is run alone, so many times."""
 
-    command: Tuple[str, ...]
+    command: tuple[str, ...]
     times: int = 3
     text: str = ""  # what it reads
 
@@ -50,9 +52,9 @@ class Mistake:
     mode: int = 0o755
     link: Optional[str] = None  # what the file is a link to, where it is one
     is_being_written: bool = False  # while the match is played
-    side: str = "black"  # which side is mistaken
+    side: Colour = BLACK  # which side is mistaken
     other: str = PASSES  # the command of the other side
-    options: Tuple[str, ...] = ("--size", "9")
+    options: tuple[str, ...] = ("--size", "9")
     folder: str = "."  # in which the match is played
     errors: Union[str, Spoken] = ""
     why: str = ""  # the standard error where `--why` is one of the options
@@ -60,11 +62,13 @@ class Mistake:
     # first meets the end of its output, or fails to write to it.
     early_end: str = ""
     search_path: Optional[str] = None  # the PATH of twogtp, where it has another one
-    limits: Tuple[str, ...] = ()  # of twogtp, as `prlimit` reads them
+    limits: tuple[str, ...] = ()  # of twogtp, as `prlimit` reads them
     as_other_user: bool = False  # than root, for whom these limits don't hold
 
 
-def not_started(reason: str, program: str = "./engine", times: int = 3, side: str = "black") -> str:
+def not_started(
+    reason: str, program: str = "./engine", times: int = 3, side: Colour = BLACK
+) -> str:
     """Returns what `--why` reports of a program that can't be started, by 80 bytes of its name."""
     return f'twogtp: game 1: {side}: not started: {reason}: "{program}"\n' * times
 
@@ -81,7 +85,7 @@ def ended(how: str, said: str = "", times: int = 3) -> str:
 # files, and three are open from the start; so six aren't enough. One process is the program's own.
 NOT_STARTED = [
     Mistake("without a mistake, as Black", PLAYED, 0),
-    Mistake("without a mistake, as White", PLAYED, 0, side="white"),
+    Mistake("without a mistake, as White", PLAYED, 0, side=WHITE),
     Mistake(
         "without a mistake, by a relative path from the right folder",
         PLAYED,
@@ -101,8 +105,8 @@ NOT_STARTED = [
         "game 1: abandoned white moves 0 restarts 0 2",
         1,
         "./no_such_folder/engine",
-        side="white",
-        why=not_started(NO_FILE, "./no_such_folder/engine", side="white"),
+        side=WHITE,
+        why=not_started(NO_FILE, "./no_such_folder/engine", side=WHITE),
     ),
     Mistake(
         "a wrong path on both sides",

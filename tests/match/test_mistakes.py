@@ -6,10 +6,11 @@ import os
 import re
 import shutil
 from pathlib import Path
-from typing import Dict, List, Mapping, NamedTuple
+from typing import Mapping, NamedTuple
 
 import pytest
 
+from tests.references.engine.values import BLACK
 from tests.shared.processes import run
 
 from .mistakes import ALL_UNANSWERED, MISTAKES, SPOKEN, Mistake, Spoken
@@ -25,7 +26,7 @@ class Result(NamedTuple):
     errors: str
 
 
-def command_of(mistake: Mistake, twogtp: Path) -> List[str]:
+def command_of(mistake: Mistake, twogtp: Path) -> list[str]:
     """Returns the command of the match. Where there are limits that can't be set, it is skipped."""
     command = [str(twogtp)]
     if mistake.limits:
@@ -36,7 +37,7 @@ def command_of(mistake: Mistake, twogtp: Path) -> List[str]:
         # the folders above twogtp may be closed to another user
         command = [*limited, "./twogtp" if mistake.as_other_user else str(twogtp)]
     sides = [mistake.command, mistake.other]
-    black, white = sides if mistake.side == "black" else reversed(sides)
+    black, white = sides if mistake.side == BLACK else reversed(sides)
     return [*command, "--black", black, "--white", white, *mistake.options]
 
 
@@ -63,7 +64,7 @@ def play(
     if mistake.as_other_user:
         cwd.chmod(0o755)
         shutil.copy(twogtp, cwd)
-    own: Dict[str, str] = {**environment, "HOME": str(folder)}
+    own: dict[str, str] = {**environment, "HOME": str(folder)}
     if mistake.search_path is not None:
         own["PATH"] = mistake.search_path
     command = [*command_of(mistake, twogtp), *options]
@@ -86,7 +87,7 @@ each_mistake = pytest.mark.parametrize("mistake", MISTAKES, ids=lambda row: row.
 
 @each_mistake
 def test_match(
-    mistake: Mistake, twogtp: Path, gtp_engine: Path, environment: Dict[str, str], tmp_path: Path
+    mistake: Mistake, twogtp: Path, gtp_engine: Path, environment: dict[str, str], tmp_path: Path
 ) -> None:
     errors = mistake.errors
     if isinstance(errors, Spoken):
@@ -97,7 +98,7 @@ def test_match(
 
 @each_mistake
 def test_match_with_why(
-    mistake: Mistake, twogtp: Path, gtp_engine: Path, environment: Dict[str, str], tmp_path: Path
+    mistake: Mistake, twogtp: Path, gtp_engine: Path, environment: dict[str, str], tmp_path: Path
 ) -> None:
     why = mistake.why
     if isinstance(mistake.errors, Spoken):

@@ -10,7 +10,7 @@ from typing import Any, Iterator, NamedTuple, TextIO
 
 import pytest
 
-from tests.references.controller.engines import Other
+from tests.references.controller.engines import Engine, Other
 from tests.references.controller.matches import Match
 from tests.references.controller.worked.rows import FIRST, PASSED, book, match, passing, refusing
 from tests.shared.processes import TIMEOUT, is_alive, wait_until
@@ -22,7 +22,7 @@ GRACE = 0.2  # seconds in which an engine whose output has ended may end by itse
 LINE = f"game 1: {PASSED}\n"
 
 
-def seconds_of(player: Player, engine: Any, starts: int) -> float:
+def seconds_of(player: Player, engine: Engine, starts: int) -> float:
     """Returns how long a match takes in which Black, which is this engine, goes down so often."""
     begin = time.monotonic()
     result = player.play(match(engine, FIRST, restarts=starts - 1))
@@ -141,7 +141,7 @@ def usage_of(process: int) -> Usage:
     ],
 )
 def test_nothing_grows_in_many_games(
-    player: Player, black: Any, games: int, result: str, status: int
+    player: Player, black: Engine, games: int, result: str, status: int
 ) -> None:
     lines, usages = [], []
     played = match(black, book(""), games=games)
