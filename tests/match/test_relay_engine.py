@@ -23,11 +23,7 @@ def relay_engine(programs: Path) -> Path:
 
 @pytest.fixture
 def play(
-    relay_engine: Path,
-    twogtp: Path,
-    gtp_engine: Path,
-    environment: dict[str, str],
-    tmp_path: Path,
+    relay_engine: Path, twogtp: Path, gtp_engine: Path, environment: dict[str, str], tmp_path: Path
 ) -> Play:
     """Returns a function that plays a game on 3x3 in which a shell script writes Black's moves.
 

@@ -31,10 +31,7 @@ SEEDS = [0, 1, 2, 7, 2147483648, 4294967295]
 # Around a stone of Black, H: X and O are stones of Black and White. In the first, White takes H by
 # 2, and then Black takes 2 by H. In the second, Black plays 1 next to H, White takes both by 2, and
 # then Black takes 2 by H.
-PATTERNS = [
-    ("..OX.", ".OH2X", "..OX."),
-    (".OOX.", "O1H2X", ".OOX."),
-]
+PATTERNS = [("..OX.", ".OH2X", "..OX."), (".OOX.", "O1H2X", ".OOX.")]
 
 
 class Conversation(NamedTuple):
