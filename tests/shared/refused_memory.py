@@ -9,15 +9,23 @@ import os
 import re
 from collections import Counter
 from dataclasses import dataclass
+from enum import Enum
 from pathlib import Path
-from typing import Any, List, NamedTuple, Sequence
+from typing import Any, NamedTuple, Sequence
 
 from tests.references.controller.engines import Planned
 
 from .processes import TOP, is_alive, process_tree, run
 
 CLAP = "\n\nFor more information, try '--help'.\n"  # how an error of clap ends
-REPORTED, UNHARMED = "reported", "unharmed"
+
+
+class Outcome(Enum):
+    """What comes of a refusal."""
+
+    REPORTED = "reported"
+    HARMLESS = "without harm"
+    WRONG = "wrong"
 
 
 def hostile(plan: str, style: str = "<reply>") -> str:
@@ -84,8 +92,9 @@ class Refuser(NamedTuple):
         return Ending(process.returncode, text_of(output), text_of(errors), is_left)
 
     def is_clap_another(self) -> bool:
-        """Tells whether the programs may have another clap, with other texts, by cargo."""
-        return "cargo" in run([TOP / "packaging/built", "twogtp", "gtp_engine", "gtp_check"]).stdout
+        """Tells whether cargo may have built the programs, with another clap and its texts."""
+        kinds = run([TOP / "packaging/built", "twogtp", "gtp_engine", "gtp_check"]).stdout.split()
+        return kinds != ["proved"] * 3
 
     def check(self, refused: Run) -> None:
         """Fails unless each refusal is reported or without harm, and most are reported."""
@@ -97,11 +106,10 @@ class Refuser(NamedTuple):
             wanted = wanted._replace(errors=whole.errors)
         assert whole == wanted
         endings = [self.ending(refused, number) for number in range(1, requests + 1)]
-        outcomes: List[str] = [outcome(refused, wanted, it) for it in endings]
-        bad = [it for it, what in zip(endings, outcomes) if what not in (REPORTED, UNHARMED)]
-        assert bad == []
+        outcomes = [outcome(refused, wanted, ending) for ending in endings]
+        assert [it for it, what in zip(endings, outcomes) if what is Outcome.WRONG] == []
         counts = Counter(outcomes)
-        assert counts[REPORTED] > counts[UNHARMED]
+        assert counts[Outcome.REPORTED] > counts[Outcome.HARMLESS]
 
 
 def text_of(file: Path) -> str:
@@ -109,14 +117,15 @@ def text_of(file: Path) -> str:
     return file.read_text(errors="backslashreplace")
 
 
-def outcome(refused: Run, wanted: Ending, ending: Ending) -> str:
-    """Returns whether a refusal was reported or without harm, or else that it is bad."""
+def outcome(refused: Run, wanted: Ending, ending: Ending) -> Outcome:
+    """Returns what has come of a refusal."""
     if ending == wanted:
-        return UNHARMED
+        return Outcome.HARMLESS
     # Of the lines of a match some may be reported before, but nothing of a usage error.
     lines = wanted.errors if refused.status != 2 else ""
     before, report, after = ending.errors.rpartition(f"{refused.command[0]}: out of memory\n")
     is_beginning = lines.startswith(before) and before[-1:] in ("", "\n")
-    if report and not after and is_beginning and wanted.output.startswith(ending.output):
-        return REPORTED if ending.status == 3 and not ending.is_left else "bad"
-    return "bad"
+    is_reported = report and not after and is_beginning and ending.status == 3
+    if is_reported and not ending.is_left and wanted.output.startswith(ending.output):
+        return Outcome.REPORTED
+    return Outcome.WRONG
