@@ -38,6 +38,6 @@ def play(twogtp: Path, gtp_engine: Path, environment: dict[str, str]) -> Play:
 def rust_workspace(tmp_path_factory: pytest.TempPathFactory) -> Path:
     """Returns a new Cargo workspace, which has the crate in Rust."""
     folder = tmp_path_factory.mktemp("rust") / "workspace"
-    done = run([TOP / "cargo/strip", folder])
+    done = run([TOP / "cargo/strip", folder], timeout=LIMIT)
     assert (done.returncode, done.stderr) == (0, "")
     return folder

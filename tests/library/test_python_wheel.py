@@ -21,6 +21,8 @@ from tests.shared.processes import TIMEOUT, run
 from .compiling import need_tools
 from .python_package import PACKAGE, pythons
 
+pytestmark = pytest.mark.xdist_group("wheel")
+
 MAKE_WHEEL = PACKAGE / "make_wheel"
 RELEASE = "vintsaky-1.0.0"
 INFO = f"{RELEASE}.dist-info/"
