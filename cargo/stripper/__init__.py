@@ -1,1 +1,1 @@
-"""Takes the ghosts off Rattle sources, which leaves Rust, and writes a Cargo workspace of it."""
+"""Removes the ghosts from Rattle sources, which leaves Rust, and writes a Cargo workspace."""

@@ -1,12 +1,19 @@
-"""Contracts as text in the documentation of what Rust builds, which doesn't look at them."""
+"""Writes contracts as text into the documentation of what Rust builds."""
+from __future__ import annotations
+
+from typing import Dict, List, Optional, Sequence
+
 from .refused import Refused
 from .scanner import Part
 
 HEADING = "# Contract"
 
 
-def item_start(parts, at):
-    """The index of the first part of the item whose `fn` is here: its attributes and `pub`, below its comment."""
+def item_start(parts: Sequence[Part], at: int) -> int:
+    """Returns the index of the first part of the item whose `fn` is here.
+
+    That is its first attribute, or its `pub`, below its comment.
+    """
     depth = 0
     while at > 0:
         part = parts[at - 1]
@@ -22,8 +29,8 @@ def item_start(parts, at):
     return at
 
 
-def shown(clauses, indent):
-    """The lines of documentation that show the clauses."""
+def clause_lines(clauses: Sequence[str], indent: str) -> List[str]:
+    """Returns the lines of documentation that show the clauses."""
     lines = []
     for clause in clauses:
         rows = clause.split("\n")
@@ -33,18 +40,19 @@ def shown(clauses, indent):
     return [f"{indent}/// {line}".rstrip() for line in ["```text", *lines, "```"]]
 
 
-def is_of_a_name(parts, at):
-    """Does a name come next after this part? The `fn` of a type has none."""
+def is_before_a_name(parts: Sequence[Part], at: int) -> bool:
+    """Tells whether a name comes next after this part. None does after the `fn` of a type."""
     following = (part.kind for part in parts[at + 1 :] if part.kind not in ("space", "note", "doc"))
     return next(following, None) == "word"
 
 
-def clauses_by_item(parts):
-    """The clauses of each function, by where its item starts."""
-    clauses_of = {}
-    function, depth = None, 0
+def clauses_by_item(parts: Sequence[Part]) -> Dict[int, List[str]]:
+    """Returns the clauses of each function, by the index at which its item starts."""
+    clauses_of: Dict[int, List[str]] = {}
+    function: Optional[int] = None
+    depth = 0
     for at, part in enumerate(parts):
-        if part.kind == "word" and part.text == "fn" and is_of_a_name(parts, at):
+        if part.kind == "word" and part.text == "fn" and is_before_a_name(parts, at):
             function, depth = at, 0
         elif part.kind == "mark":
             depth += {"(": 1, "[": 1, ")": -1, "]": -1}.get(part.text, 0)
@@ -61,10 +69,10 @@ def clauses_by_item(parts):
     return clauses_of
 
 
-def documented(parts):
-    """The parts without their clauses. These are shown as text under the comment of their function."""
+def documented(parts: Sequence[Part]) -> List[Part]:
+    """Returns the parts, in which clauses are text below the comment of their function."""
     clauses_of = clauses_by_item(parts)
-    made = []
+    made: List[Part] = []
     for at, part in enumerate(parts):
         if at in clauses_of:
             before = parts[at - 1].text if at and parts[at - 1].kind == "space" else ""
@@ -74,7 +82,7 @@ def documented(parts):
                 f"{indent}/// {HEADING}",
                 f"{indent}///",
             ]
-            lines += shown(clauses_of[at], indent)
+            lines += clause_lines(clauses_of[at], indent)
             made.append(Part("doc", "\n".join(lines).lstrip() + "\n" + indent, part.line))
         if part.kind != "clause":
             made.append(part)

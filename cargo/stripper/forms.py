@@ -1,14 +1,18 @@
-"""Forms that the stripper refuses: ghosts that are left over, what it doesn't know, and what Rust takes with another meaning.
+"""Forms that the stripper refuses: ghosts that are left, and what Rust takes in another sense.
 
-The kit's page FROM_RUST.md lists the forms that both take and that mean two things. What a form is of can't always be seen in
-the text. Then more is refused than differs, and the source has to say the same in another way.
+The kit's page FROM_RUST.md lists the forms that both take and that mean two things. What a form
+belongs to can't always be seen in the text. Then more is refused than differs, and the source has
+to say the same in another way.
 """
+from __future__ import annotations
+
 import re
-from typing import Callable, NamedTuple
+from typing import Callable, Iterable, Iterator, NamedTuple
 
 from . import shapes
 from .places import Plain
 from .refused import Refused
+from .scanner import Part
 
 
 class Form(NamedTuple):
@@ -100,7 +104,7 @@ class Shape(NamedTuple):
     """A form that no expression finds: its name, what finds its places, and why it is refused."""
 
     name: str
-    places: Callable
+    places: Callable[[str], Iterator[int]]
     why: str
 
 
@@ -146,8 +150,8 @@ SHAPES = [
 METHOD_OF_STD = "a trait has a method that a trait or a type of std has"
 
 
-def refuse_what_differs(parts, path):
-    """Refuses a source, without its ghosts, that has a form which Rust takes with another meaning."""
+def refuse_what_differs(parts: Iterable[Part], path: str) -> None:
+    """Refuses a source without its ghosts that has a form which Rust takes in another sense."""
     code = Plain(parts)
     for form in SILENT:
         if found := re.search(form.known_by, code.text):
@@ -159,8 +163,8 @@ def refuse_what_differs(parts, path):
         raise Refused("method of std", METHOD_OF_STD, code.line(at))
 
 
-def refuse_what_is_unknown(code, is_test):
-    """Refuses code as Rust will have it, without comments and texts, in which something of the kit is left."""
+def refuse_what_is_unknown(code: str, is_test: bool) -> None:
+    """Refuses code in which something of the kit is left, without comments and texts."""
     for form in UNKNOWN:
         found = re.search(form.known_by, code)
         if found and not (is_test and form.name == "right to end the program"):

@@ -1,12 +1,22 @@
-"""Marks short functions `#[inline]`. Rust compiles each crate by itself, where the kit has all of a program's code before it."""
-import re
+"""Marks short functions `#[inline]`.
 
-MOST_LINES = 9  # of a function that is marked, from its `fn` to its brace; with more, games take longer again
+Rust compiles each crate by itself, while the kit compiles all code of a program together.
+"""
+from __future__ import annotations
+
+import re
+from typing import List, Optional
+
+# The lines of a function that is marked, from its `fn` to its brace. With more, games take longer.
+MOST_LINES = 9
 FUNCTION = re.compile(r"(\s*)(?:pub(?:\([^)]*\))? )?fn \w+")
 
 
-def end_of(lines, at, margin):
-    """The line with the brace that ends the function which begins here, or None where it is too long or has no body."""
+def end_of(lines: List[str], at: int, margin: str) -> Optional[int]:
+    """Returns the line with the brace that ends the function which begins here.
+
+    It is None where the function is too long, or has no body.
+    """
     for end in range(at, min(at + MOST_LINES, len(lines))):
         if end > at and lines[end] == margin + "}":
             return end
@@ -17,10 +27,10 @@ def end_of(lines, at, margin):
     return None
 
 
-def inlined(text):
-    """The source with each short function marked that isn't yet."""
+def inlined(text: str) -> str:
+    """Returns the source with each short function marked."""
     lines = text.split("\n")
-    made = []
+    made: List[str] = []
     for at, line in enumerate(lines):
         found = FUNCTION.match(line)
         if (

@@ -1,24 +1,25 @@
 """The manifests of the workspace."""
-import re
+from __future__ import annotations
 
-# The other crates: what a member's manifest says of each, and what the workspace's does. The kit's ports of the last two have
-# another interface, which a shim has over them.
+import re
+from typing import Iterator, List, Mapping, NamedTuple, Sequence
+
+# What the workspace's manifest says of each other crate. The kit's ports of the last two have
+# another interface, for which there is a shim.
 OTHERS = {
     "arrayvec": 'version = "0.7.2", default-features = false',
     "thiserror": 'version = "1.0.38"',
     "rand_pcg": 'version = "0.3.1", default-features = false',
     "rand_core": 'version = "0.6.3", default-features = false',
-    "clap": 'version = "4.0.32", default-features = false, features = ["std", "help", "usage", "error-context", "suggestions", "string"]',
+    "clap": 'version = "4.0.32", default-features = false, features = '
+    '["std", "help", "usage", "error-context", "suggestions", "string"]',
 }
-BUILT = (
-    "gtp_check",
-    "gtp_engine",
-    "twogtp",
-    "vintsaky",
-)  # the crates that cargo builds where none is named
+# The crates that cargo builds where none is named.
+BUILT = ("gtp_check", "gtp_engine", "twogtp", "vintsaky")
 SHIMMED = ("rand_core", "clap")
 SHIMS = ("kit_ffi", "kit_simd", "kit_std")
-# Why each lint of clippy is allowed. The sources are proved as they are, and a change has to make them better in itself.
+# Why each lint of clippy is allowed. The sources are proved as they are, and a change has to make
+# them better in itself.
 LINTS = """\
 [workspace.lints.rust]
 unexpected_cfgs = { level = "warn", check-cfg = ["cfg(kit_portable)"] }
@@ -69,7 +70,7 @@ fn main() {
 """
 MARK = "# Made by cargo/strip."  # how the workspace's manifest begins
 WORKSPACE = """\
-# Made by cargo/strip. Change the sources, and make it anew.
+# Made by cargo/strip. Change the sources, and make it again.
 [workspace]
 resolver = "3"
 members = [{members}]
@@ -97,17 +98,25 @@ debug = false
 """
 
 
-def rows_of(listing):
-    """The rows of crates.txt: a name, whether it is a static library, and what it depends on."""
+class Crate(NamedTuple):
+    """A row of crates.txt: a crate, whether it is a library for C, and what it depends on."""
+
+    name: str
+    is_for_c: bool
+    needs: List[str]
+
+
+def crates_in(listing: str) -> Iterator[Crate]:
+    """Yields the rows of crates.txt."""
     for line in listing.splitlines():
         head, colon, needs = line.split("#")[0].partition(":")
         if colon:
             name, *kind = head.split()
-            yield name, "staticlib" in kind, needs.split()
+            yield Crate(name, "staticlib" in kind, needs.split())
 
 
-def dependency(name):
-    """What a crate's manifest says of one that it depends on."""
+def dependency(name: str) -> str:
+    """Returns what a crate's manifest says of one that it depends on."""
     if name in SHIMMED:
         return f'{name} = {{ package = "kit_{name}", path = "../../shims/{name}" }}'
     if name in OTHERS:
@@ -115,25 +124,26 @@ def dependency(name):
     return f'{name} = {{ path = "../{"../shims/" if name in SHIMS else ""}{name}" }}'
 
 
-def manifest(name, is_library_of_c, is_program, needs, test_needs):
-    """The manifest of a crate."""
-    package = f"{name}_c" if is_library_of_c else name
+def manifest(crate: Crate, is_program: bool, test_needs: Sequence[str]) -> str:
+    """Returns the manifest of a crate, whose tests need these crates too."""
+    name = crate.name
+    package = f"{name}_c" if crate.is_for_c else name
     inherited = "".join(
         f"{key}.workspace = true\n" for key in ("version", "edition", "rust-version", "publish")
     )
     text = f'[package]\nname = "{package}"\n{inherited}\n[lints]\nworkspace = true\n'
-    if is_library_of_c:
+    if crate.is_for_c:
         text += f'\n[lib]\nname = "{name}"\ncrate-type = ["staticlib", "cdylib"]\ndoc = false\n'
     if is_program:
         text += f'\n[[bin]]\nname = "{name}"\npath = "src/main.rs"\ntest = false\n'
-    text += "\n[dependencies]\n" + "".join(f"{dependency(need)}\n" for need in needs)
+    text += "\n[dependencies]\n" + "".join(f"{dependency(need)}\n" for need in crate.needs)
     if test_needs:
         text += "\n[dev-dependencies]\n" + "".join(f"{dependency(need)}\n" for need in test_needs)
     return text
 
 
-def workspace(members, version, paths):
-    """The manifest of the workspace. `paths` has where each of the other crates lies, or nothing, where cargo finds them."""
+def workspace(members: Sequence[str], version: str, paths: Mapping[str, str]) -> str:
+    """Returns the manifest of the workspace, which names the paths of these other crates."""
     others = ""
     for name, wanted in OTHERS.items():
         where = f', path = "{paths[name]}"' if paths else ""
@@ -145,8 +155,7 @@ def workspace(members, version, paths):
     )
 
 
-def version_of(cli):
-    """The version of all crates, which the text of one has, as Cargo writes it."""
-    found = re.search(r'pub const VERSION: &str = "([0-9.]+)";', cli)
-    numbers = found.group(1).split(".")
-    return ".".join((numbers + ["0", "0"])[:3])
+def version_of(cli: str) -> str:
+    """Returns the version of all crates as Cargo writes it, by the text of one that names it."""
+    (version,) = re.findall(r'pub const VERSION: &str = "([0-9.]+)";', cli)
+    return ".".join([*version.split("."), "0", "0"][:3])

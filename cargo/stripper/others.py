@@ -1,8 +1,11 @@
-"""The other crates: from cargo's registry, where this machine reaches it, or else as Debian's packages have them.
+"""Finds the other crates: in cargo's registry, or else as Debian's packages have them.
 
-Debian's are copied into the workspace, and each manifest says by `path` where what it needs lies. So a program elsewhere can
-depend on a crate of the workspace by its path alone, without a network.
+Debian's are copied into the workspace, and each manifest says by `path` where its dependencies are.
+So a program elsewhere can depend on a crate of the workspace by its path, without a network.
 """
+from __future__ import annotations
+
+import enum
 import json
 import os
 import re
@@ -10,23 +13,59 @@ import shutil
 import subprocess
 import tempfile
 from pathlib import Path
+from typing import Callable, Dict, Mapping, NamedTuple, Optional
 
 DEBIAN = Path("/usr/share/cargo/registry")
-PACKAGES = "librust-arrayvec-dev librust-thiserror-dev librust-rand-pcg-dev librust-rand-core-dev librust-clap-dev"
+PACKAGES = (
+    "librust-arrayvec-dev librust-thiserror-dev librust-rand-pcg-dev librust-rand-core-dev"
+    " librust-clap-dev"
+)
+# A table of a manifest on a dependency.
 TABLE = re.compile(
-    r'(?m)^\[(?:target\..*\.)?(?:dependencies|build-dependencies)\.(?P<quoted>"?)(?P<name>[\w-]+)(?P=quoted)\]\n(?P<rows>(?:(?!\[).*\n?)*)'
+    r"(?m)^\[(?:target\..*\.)?(?:dependencies|build-dependencies)\."
+    r'(?P<quoted>"?)(?P<name>[\w-]+)(?P=quoted)\]\n(?P<rows>(?:(?!\[).*\n?)*)'
 )
 RENAMED = re.compile(r'(?m)^package = "([^"]+)"')
 CHANGED = (
     "# Changed by cargo/strip: each `path` says where a crate lies, and no warning is shown.\n"
 )
-QUIET = '\n[lints.rust]\nwarnings = "allow"\n'  # cargo shows no warning of a crate of its registry
-LEAST = 87  # the second number of the first cargo, and of the first rustc, that build it
-LIMIT = 120  # seconds that a call of cargo may take here
+QUIET = '\n[lints.rust]\nwarnings = "allow"\n'  # as cargo shows none of a crate of its registry
+OLDEST = 87  # the second number of the first cargo, and of the first rustc, that build it
+TIMEOUT = 120  # seconds after which cargo is taken not to reach its registry
 
 
 class Missing(Exception):
-    """The other crates are nowhere."""
+    """Something is missing for a workspace, or is in its place."""
+
+
+class Origin(enum.Enum):
+    """Where the other crates are from, as an argument and in words."""
+
+    REGISTRY = "registry"
+    DEBIAN = "debian"
+
+    def __str__(self) -> str:
+        return "cargo's registry" if self is Origin.REGISTRY else "Debian's packages"
+
+
+class OtherCrate(NamedTuple):
+    """A crate of other people."""
+
+    name: str
+    version: str
+
+    def __str__(self) -> str:
+        return f"{self.name}-{self.version}"
+
+
+Folders = Dict[OtherCrate, Path]
+
+
+class Found(NamedTuple):
+    """Where the other crates are from, and the folder of each."""
+
+    origin: Origin
+    folders: Folders
 
 
 PROBE = """\
@@ -40,8 +79,8 @@ rust-version = "1.87"
 """
 
 
-def cargo(folder, *words):
-    """What cargo returns of a package, as its status and its output."""
+def cargo(folder: Path, *words: str) -> Optional[str]:
+    """Returns what cargo prints of the package in a folder, or None where it fails."""
     quick = {"CARGO_NET_RETRY": "0", "CARGO_HTTP_TIMEOUT": "20"}
     command = ["cargo", *words, "--manifest-path", str(folder / "Cargo.toml")]
     try:
@@ -52,131 +91,136 @@ def cargo(folder, *words):
             stdin=subprocess.DEVNULL,
             capture_output=True,
             text=True,
-            timeout=LIMIT,
+            timeout=TIMEOUT,
         )
     except subprocess.TimeoutExpired:
-        return 1, ""
-    return done.returncode, done.stdout
+        return None
+    return done.stdout if done.returncode == 0 else None
 
 
-def look_at_cargo():
-    """Is there a cargo that is new enough?"""
+def need_cargo() -> None:
+    """Raises an error where there is no cargo that is new enough."""
+    command = ["cargo", "--version"]
     try:
-        said = subprocess.run(
-            ["cargo", "--version"], capture_output=True, text=True, stdin=subprocess.DEVNULL
-        ).stdout
+        done = subprocess.run(command, capture_output=True, text=True, stdin=subprocess.DEVNULL)
     except FileNotFoundError:
-        raise Missing(f"there is no cargo: 1.{LEAST} or later is needed") from None
-    found = re.match(r"cargo 1\.(\d+)\.", said)
-    if found and int(found[1]) < LEAST:
-        raise Missing(
-            f"{said.strip()} is too old: 1.{LEAST} or later is needed (on Debian rustc-web and cargo-web)"
-        )
+        raise Missing(f"there is no cargo: 1.{OLDEST} or later is needed") from None
+    if is_too_old(done.stdout):
+        wanted = f"1.{OLDEST} or later is needed (on Debian rustc-web and cargo-web)"
+        raise Missing(f"{done.stdout.strip()} is too old: {wanted}")
 
 
-def probe(folder, wanted):
-    """A package that needs the other crates and nothing else, by which cargo is asked for them."""
+def is_too_old(version: str) -> bool:
+    """Tells whether a cargo that prints this version is too old."""
+    found = re.match(r"cargo 1\.(\d+)\.", version)
+    return found is not None and int(found[1]) < OLDEST
+
+
+def write_probe(folder: Path, wanted: Mapping[str, str]) -> None:
+    """Writes a package that needs only the other crates, for which cargo has to find them."""
     (folder / "src").mkdir()
-    (folder / "src/lib.rs").write_text("")
-    (folder / "Cargo.toml").write_text(
-        PROBE + "".join(f"{name} = {{ {what} }}\n" for name, what in wanted.items())
-    )
+    (folder / "src/lib.rs").touch()
+    rows = [f"{name} = {{ {what} }}\n" for name, what in wanted.items()]
+    (folder / "Cargo.toml").write_text(PROBE + "".join(rows))
 
 
-def packages_of(folder, *words):
-    """The packages of others that cargo takes for the probe: the folder of each by its name and version, or None."""
-    status, output = cargo(folder, "metadata", "--offline", "--format-version", "1", *words)
-    if status:
+def dependencies(folder: Path, *words: str) -> Optional[Folders]:
+    """Returns the folders of the crates that cargo takes for a package, or None."""
+    output = cargo(folder, "metadata", "--offline", "--format-version", "1", *words)
+    if output is None:
         return None
     return {
-        (it["name"], it["version"]): Path(it["manifest_path"]).parent
-        for it in json.loads(output)["packages"]
-        if it["source"]
+        OtherCrate(package["name"], package["version"]): Path(package["manifest_path"]).parent
+        for package in json.loads(output)["packages"]
+        if package["source"]
     }
 
 
-def of_registry(folder):
-    """Those of cargo's registry, where cargo has them or gets them."""
-    if cargo(folder, "fetch", "--offline")[0] and cargo(folder, "fetch")[0]:
+def in_registry(folder: Path) -> Optional[Folders]:
+    """Returns those of cargo's registry, if cargo has them or gets them."""
+    if cargo(folder, "fetch", "--offline") is None and cargo(folder, "fetch") is None:
         return None
-    return packages_of(folder)
+    return dependencies(folder)
 
 
-def of_debian(folder):
-    """Those of Debian's packages, where these are installed."""
+def in_debian(folder: Path) -> Optional[Folders]:
+    """Returns those of Debian's packages, if these are installed."""
     source = f'source.debian.directory="{DEBIAN}"'
-    return packages_of(
-        folder, "--config", 'source.crates-io.replace-with="debian"', "--config", source
-    )
+    replaced = 'source.crates-io.replace-with="debian"'
+    return dependencies(folder, "--config", replaced, "--config", source)
 
 
-def find(wanted, where=None):
-    """Where the other crates are from, `registry` or `debian`, and the folder of each by its name and version."""
+FINDERS: Dict[Origin, Callable[[Path], Optional[Folders]]] = {
+    Origin.REGISTRY: in_registry,
+    Origin.DEBIAN: in_debian,
+}
+
+
+def find(wanted: Mapping[str, str], only: Optional[Origin] = None) -> Found:
+    """Returns where the other crates are, of this origin where it is given."""
     with tempfile.TemporaryDirectory() as name:
         folder = Path(name)
-        probe(folder, wanted)
-        for kind, packages in (("registry", of_registry), ("debian", of_debian)):
-            found = packages(folder) if where in (None, kind) else None
-            if found is not None:
-                return kind, found
+        write_probe(folder, wanted)
+        for origin, finder in FINDERS.items():
+            folders = finder(folder) if only in (None, origin) else None
+            if folders is not None:
+                return Found(origin, folders)
             (folder / "Cargo.lock").unlink(missing_ok=True)
-    if where == "registry":
-        raise Missing("cargo doesn't reach its registry")
-    raise Missing(
-        f"cargo doesn't reach its registry, and Debian's packages are not all here: apt-get install {PACKAGES}"
-    )
+    reason = "cargo doesn't reach its registry"
+    if only is not Origin.REGISTRY:
+        reason += f", and Debian's packages are not all here: apt-get install {PACKAGES}"
+    raise Missing(reason)
 
 
-def with_paths(manifest, taken):
-    """A manifest that says where each crate lies that it depends on, where that is taken."""
+def with_paths(manifest: str, folders: Folders) -> str:
+    """Returns a manifest with the path of each of these crates that it depends on."""
 
-    def with_path(table):
+    def with_path(table: re.Match[str]) -> str:
         renamed = RENAMED.search(table["rows"])
-        name = renamed.group(1) if renamed else table["name"]
-        folders = [f"{it}-{version}" for it, version in taken if it == name]
-        if not folders:
-            return table.group()
-        head, rest = table.group().split("\n", 1)
-        return f'{head}\npath = "../{folders[0]}"\n{rest}'
+        name = renamed[1] if renamed else table["name"]
+        crates = [crate for crate in folders if crate.name == name]
+        if not crates:
+            return table[0]
+        head, rest = table[0].split("\n", 1)
+        return f'{head}\npath = "../{crates[0]}"\n{rest}'
 
     text = CHANGED + TABLE.sub(with_path, manifest)
     return text if "[lints" in text else text + QUIET
 
 
-def files_of(folder, taken):
-    """Each file of a crate as the workspace has it, by its path."""
-    found = {}
-    for path in folder.rglob("*"):
-        inside = path.relative_to(folder)
-        if (
-            path.is_file()
-            and path.name != "Cargo.toml.orig"
-            and not any(part.startswith(".") for part in inside.parts)
-        ):
-            found[inside] = path.read_bytes()
-    found[Path("Cargo.toml")] = with_paths((folder / "Cargo.toml").read_text(), taken).encode()
-    return found
+def crate_files(folder: Path, folders: Folders) -> Dict[Path, bytes]:
+    """Returns the files of a crate as the workspace has them, by their paths."""
+    files: Dict[Path, bytes] = {}
+    for file in folder.rglob("*"):
+        path = file.relative_to(folder)
+        is_hidden = any(part.startswith(".") for part in path.parts)
+        if file.is_file() and path.name != "Cargo.toml.orig" and not is_hidden:
+            files[path] = file.read_bytes()
+    files[Path("Cargo.toml")] = with_paths((folder / "Cargo.toml").read_text(), folders).encode()
+    return files
 
 
-def lay(folder, files):
-    """Makes the files those of the folder. One that is the same stays as it is, or cargo would build what stands on it anew."""
-    for path in [
-        it for it in folder.rglob("*") if it.is_file() and it.relative_to(folder) not in files
-    ]:
-        path.unlink()
+def write_files(folder: Path, files: Mapping[Path, bytes]) -> None:
+    """Makes these the files of a folder.
+
+    A file that is the same isn't written, or cargo would build again what depends on it.
+    """
+    for file in list(folder.rglob("*")):
+        if file.is_file() and file.relative_to(folder) not in files:
+            file.unlink()
     for path, data in files.items():
-        at = folder / path
-        if not at.is_file() or at.read_bytes() != data:
-            at.parent.mkdir(parents=True, exist_ok=True)
-            at.write_bytes(data)
+        file = folder / path
+        if not file.is_file() or file.read_bytes() != data:
+            file.parent.mkdir(parents=True, exist_ok=True)
+            file.write_bytes(data)
 
 
-def copy(workspace, taken):
+def copy(workspace: Path, folders: Folders) -> Dict[str, str]:
     """Copies the crates into the workspace, and returns the folder of each by its name."""
-    names = {f"{name}-{version}" for name, version in taken}
+    names = {str(crate) for crate in folders}
     for folder in (workspace / "others").glob("*"):
         if folder.name not in names:
             shutil.rmtree(folder)
-    for (name, version), folder in sorted(taken.items()):
-        lay(workspace / "others" / f"{name}-{version}", files_of(folder, taken))
-    return {name: f"others/{name}-{version}" for name, version in taken}
+    for crate, folder in sorted(folders.items()):
+        write_files(workspace / f"others/{crate}", crate_files(folder, folders))
+    return {crate.name: f"others/{crate}" for crate in folders}

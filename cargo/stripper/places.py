@@ -1,9 +1,11 @@
-"""Code in which comments are blank, and where its groups, blocks and items begin and end."""
-import bisect
-import math
-import re
+"""Finds where groups, blocks and items begin and end, in code whose comments are blank."""
+from __future__ import annotations
 
-from .scanner import HIDDEN
+import bisect
+import re
+from typing import Dict, Iterable, Iterator, List, NamedTuple, Set
+
+from .scanner import HIDDEN, Part
 
 OPEN, CLOSE = "([{", ")]}"
 NAMED_BOUNDS = re.compile(r"\b(?:impl|fn\s+\w+|(?:trait|struct|enum|type|union)\s+\w+)\s*(?=<)")
@@ -12,24 +14,26 @@ NAMED_BOUNDS = re.compile(r"\b(?:impl|fn\s+\w+|(?:trait|struct|enum|type|union)\
 class Plain:
     """Code in which each comment is a space and each text is a 0."""
 
-    def __init__(self, parts):
+    def __init__(self, parts: Iterable[Part]) -> None:
         self.text = ""
-        self.starts = []  # where each part begins, and its line
+        self.starts: List[int] = []  # where each part begins in the text
+        self.lines: List[int] = []  # and in the source
         for part in parts:
-            self.starts.append((len(self.text), part.line))
+            self.starts.append(len(self.text))
+            self.lines.append(part.line)
             shown = part.text
             if part.kind in HIDDEN:
                 shown = ("0" if part.kind == "text" else " ") + "\n" * part.text.count("\n")
             self.text += shown
 
-    def line(self, at):
-        """The line of the source of a place in the text."""
-        start, line = self.starts[bisect.bisect(self.starts, (at, math.inf)) - 1]
-        return line + self.text.count("\n", start, at)
+    def line(self, at: int) -> int:
+        """Returns the line of the source of a place in the text."""
+        part = bisect.bisect(self.starts, at) - 1
+        return self.lines[part] + self.text.count("\n", self.starts[part], at)
 
 
-def end_of_group(code, at):
-    """Where the parentheses, brackets or braces end that begin here."""
+def end_of_group(code: str, at: int) -> int:
+    """Returns where the parentheses, brackets or braces end that begin here."""
     depth = 0
     for here in range(at, len(code)):
         depth += (code[here] in OPEN) - (code[here] in CLOSE)
@@ -38,8 +42,8 @@ def end_of_group(code, at):
     return len(code)
 
 
-def start_of_group(code, at):
-    """Where the group begins in which this place is, or -1."""
+def start_of_group(code: str, at: int) -> int:
+    """Returns where the group begins in which this place is, or -1."""
     depth = 0
     for here in range(at - 1, -1, -1):
         depth += (code[here] in CLOSE) - (code[here] in OPEN)
@@ -48,8 +52,8 @@ def start_of_group(code, at):
     return -1
 
 
-def end_of_angles(code, at):
-    """Where the angle brackets end that begin here."""
+def end_of_angles(code: str, at: int) -> int:
+    """Returns where the angle brackets end that begin here."""
     depth = 0
     for here in range(at, len(code)):
         depth += (code[here] == "<") - (code[here] == ">" and code[here - 1] not in "-=")
@@ -58,8 +62,8 @@ def end_of_angles(code, at):
     return len(code)
 
 
-def until(code, at, ends):
-    """Where the first of these characters is that stands in no group, from here on."""
+def until(code: str, at: int, ends: str) -> int:
+    """Returns where the first of these characters is that is in no group, from here on."""
     depth = 0
     while at < len(code):
         if depth == 0 and code[at] in ends:
@@ -71,9 +75,10 @@ def until(code, at, ends):
     return at
 
 
-def split(code):
-    """The pieces between the commas that stand in no group or angle brackets."""
-    pieces, depth, begin = [], 0, 0
+def split(code: str) -> List[str]:
+    """Returns the pieces between the commas that are in no group or angle brackets."""
+    pieces: List[str] = []
+    depth = begin = 0
     for at, char in enumerate(code):
         depth += (char in "([{<") - (char in ")]}" or (char == ">" and code[at - 1] not in "-="))
         if char == "," and depth == 0:
@@ -82,8 +87,8 @@ def split(code):
     return [*pieces, code[begin:].strip()]
 
 
-def parameters(code, at):
-    """The type parameters of the angle brackets that begin here, each with its bounds."""
+def parameters(code: str, at: int) -> Dict[str, str]:
+    """Returns the bounds of each type parameter of the angle brackets that begin here."""
     inner = code[at + 1 : end_of_angles(code, at) - 1]
     pieces = [piece.split("=")[0] if ":" not in piece else piece for piece in split(inner)]
     named = [
@@ -92,12 +97,20 @@ def parameters(code, at):
     return {name.strip(): bounds for name, _, bounds in named}
 
 
-def type_parameters(code):
-    """The names of all type parameters of a source."""
+def type_parameters(code: str) -> Set[str]:
+    """Returns the names of all type parameters of a source."""
     return {name for found in NAMED_BOUNDS.finditer(code) for name in parameters(code, found.end())}
 
 
-def bodies(code, header):
-    """The body of each item whose header this expression finds, up to its `{`: the match, and where the body begins and ends."""
+class Body(NamedTuple):
+    """The body of an item: its header, up to the `{`, and where the body begins and ends."""
+
+    header: re.Match[str]
+    start: int
+    end: int
+
+
+def bodies(code: str, header: str) -> Iterator[Body]:
+    """Yields the body of each item whose header this expression finds."""
     for found in re.finditer(header, code):
-        yield found, found.end(), end_of_group(code, found.end() - 1)
+        yield Body(found, found.end(), end_of_group(code, found.end() - 1))

@@ -1,8 +1,11 @@
-"""Forms that Rust takes with another meaning, and that no expression finds: they are in groups, blocks, or items.
+"""Finds forms that Rust takes in another sense and that are in groups, blocks or items.
 
-Each function yields the places of a form. What isn't known to mean the same is taken for it.
+Each function yields the places of a form. A place is also one where the meaning isn't known.
 """
+from __future__ import annotations
+
 import re
+from typing import Iterator, Set
 
 from .places import (
     bodies,
@@ -15,9 +18,10 @@ from .places import (
     until,
 )
 
-# Words after which an operand begins: what stands before them is none.
+# Words that aren't operands: one begins after them.
 NO_OPERAND = set(
-    "return in match if while else break let mut ref move as const static for where yield loop unsafe dyn".split()
+    "return in match if while else break let mut ref move as const static for where yield loop"
+    " unsafe dyn".split()
 )
 OPERAND = re.compile(r"(?:(\w+)|[)\]}?])\s*$")
 RANGE = re.compile(r"(?<!\.)\.\.(?![.=])")
@@ -34,38 +38,46 @@ FMT = re.compile(r"\bfn\s+fmt\s*\([^{};]*->\s*(?:std::)?fmt::Result\s*$")
 # What a blanket impl may ask of a type: traits whose impls are the same in both.
 BLANKET = {"Read", "Write", "Maker", "?Sized"}
 # The traits that a type may have by a derive, or in the kit and not in Rust.
-DERIVED = r"\b(?:Clone|Copy|Debug|Default|Display|Eq|Hash|Ord|PartialEq|PartialOrd|Send|Sync|From|Into|TryFrom|TryInto|ToString|Error)\b"
+DERIVED = (
+    r"\b(?:Clone|Copy|Debug|Default|Display|Eq|Hash|Ord|PartialEq|PartialOrd|Send|Sync|From|Into"
+    r"|TryFrom|TryInto|ToString|Error)\b"
+)
 RESULT = re.compile(r"\b(?:Option|Result)\s*(?:::\s*)?$")
 IMPL = re.compile(r"\bimpl\s*(?=<)")
 TRAIT = r"\btrait\s+(\w+)[^{;]*\{"
 SIZE = re.compile(r"\b(?:size_of|align_of|needs_drop|Layout\s*::\s*(?:new|array))\s*::\s*(?=<)")
 
-# Traits of ours that name a method as one of std's, where no type has both: rustc would say that the call is ambiguous.
+# Traits of ours that name a method as std does, by the paths of their sources. No type has both:
+# rustc would say that the call is ambiguous.
 ALONE = {
-    ("byte_streams/src/streams.rt", "Incoming"),
-    ("byte_streams/src/streams.rt", "Outgoing"),
-    ("gtp_process/src/starter.rt", "Process"),
+    "byte_streams/src/streams.rt": {"Incoming", "Outgoing"},
+    "gtp_process/src/starter.rt": {"Process"},
 }
-METHODS_OF_STD = set(
-    (
-        "read read_exact read_to_end read_to_string read_line write write_all write_str write_char write_fmt flush seek by_ref bytes"
-        " chain take fmt clone clone_from clone_into cloned copied eq ne cmp partial_cmp lt le gt ge max min clamp default from into"
-        " try_from try_into as_ref as_mut borrow borrow_mut deref deref_mut drop hash finish to_string to_owned as_str as_bytes"
-        " as_slice as_mut_slice as_ptr as_deref next next_back size_hint map filter filter_map flat_map flatten fold collect sum"
-        " product count last first nth zip enumerate rev skip step_by peekable scan all any find position rposition cycle inspect"
-        " partition reduce unzip into_iter iter iter_mut from_iter extend index index_mut add sub mul div rem neg not shl shr bitand"
-        " bitor bitxor add_assign sub_assign mul_assign div_assign source description cause provide type_id call call_mut call_once len"
-        " is_empty get get_mut push pop insert remove append truncate resize clear contains contains_key starts_with ends_with split"
-        " split_at swap sort sort_by reverse join concat repeat trim parse chars lines is_some is_none is_ok is_err ok err unwrap"
-        " expect unwrap_or unwrap_or_default map_err and_then or_else replace lock send recv try_send try_recv wait kill spawn id close"
-        " abs pow wrapping_add checked_add saturating_add choose_iter from_str to_vec to_bits is_positive start_bound end_bound chunks"
-        " windows copy_from_slice fill capacity reserve drain retain"
-    ).split()
+METHODS_OF_STD: Set[str] = set(
+    """
+    read read_exact read_to_end read_to_string read_line write write_all write_str
+    write_char write_fmt flush seek by_ref bytes chain take fmt clone clone_from clone_into
+    cloned copied eq ne cmp partial_cmp lt le gt ge max min clamp default from into try_from
+    try_into as_ref as_mut borrow borrow_mut deref deref_mut drop hash finish to_string
+    to_owned as_str as_bytes as_slice as_mut_slice as_ptr as_deref next next_back size_hint
+    map filter filter_map flat_map flatten fold collect sum product count last first nth zip
+    enumerate rev skip step_by peekable scan all any find position rposition cycle inspect
+    partition reduce unzip into_iter iter iter_mut from_iter extend index index_mut add sub
+    mul div rem neg not shl shr bitand bitor bitxor add_assign sub_assign mul_assign
+    div_assign source description cause provide type_id call call_mut call_once len is_empty
+    get get_mut push pop insert remove append truncate resize clear contains contains_key
+    starts_with ends_with split split_at swap sort sort_by reverse join concat repeat trim
+    parse chars lines is_some is_none is_ok is_err ok err unwrap expect unwrap_or
+    unwrap_or_default map_err and_then or_else replace lock send recv try_send try_recv wait
+    kill spawn id close abs pow wrapping_add checked_add saturating_add choose_iter from_str
+    to_vec to_bits is_positive start_bound end_bound chunks windows copy_from_slice fill
+    capacity reserve drain retain
+    """.split()
 )
 
 
-def ranges_with_no_end(code):
-    """A range has no end, and is neither all of an index, nor of the argument of `get`, nor all of a match's pattern."""
+def ranges_with_no_end(code: str) -> Iterator[int]:
+    """Yields where a range has no end, and is no whole index, argument of `get` or pattern."""
     for found in RANGE.finditer(code):
         before = OPERAND.search(code, max(0, found.start() - 80), found.start())
         has_start = before and before.group(1) not in NO_OPERAND
@@ -76,27 +88,32 @@ def ranges_with_no_end(code):
         ):
             continue
         begin = start_of_group(code, found.start())
-        start, whole = (
-            code[begin + 1 : found.start()],
-            end_of_group(code, begin) if begin >= 0 else 0,
-        )
-        is_all = code[found.end() : whole - 1].strip() == "" and until(start, 0, ",;|=") == len(
-            start
-        )
-        of = OPERAND.search(code, max(0, begin - 80), begin) if begin >= 0 else None
-        is_index = (
-            code[begin] == "["
-            and of
-            and of.group(1) not in NO_OPERAND
-            and of.group().strip() != "}"
-        )
-        is_get = code[begin] == "(" and GET.search(code, max(0, begin - 80), begin)
-        if not is_all or not (is_index or is_get):
+        start = code[begin + 1 : found.start()]
+        end = end_of_group(code, begin) if begin >= 0 else 0
+        is_rest = code[found.end() : end - 1].strip() == ""
+        is_whole = is_rest and until(start, 0, ",;|=") == len(start)
+        if not is_whole or not (is_index(code, begin) or is_argument_of_get(code, begin)):
             yield found.start()
 
 
-def errors_of_write(code):
-    """The error of `write!` is neither dropped, nor made that of Rust, nor returned by the `fmt` in which it stands."""
+def is_index(code: str, begin: int) -> bool:
+    """Tells whether an index begins here: brackets after an operand."""
+    operand = OPERAND.search(code, max(0, begin - 80), begin) if begin >= 0 else None
+    if operand is None or operand[1] in NO_OPERAND:
+        return False
+    return code[begin] == "[" and operand[0].strip() != "}"
+
+
+def is_argument_of_get(code: str, begin: int) -> bool:
+    """Tells whether the arguments of a call of `get` begin here."""
+    return code[begin] == "(" and GET.search(code, max(0, begin - 80), begin) is not None
+
+
+def errors_of_write(code: str) -> Iterator[int]:
+    """Yields where the error of `write!` gets to code that may see which type it has.
+
+    It doesn't where it is dropped, made an error of Rust, or returned by a `fmt`.
+    """
     for found in WRITTEN.finditer(code):
         end = end_of_group(code, found.end()) if code.startswith("(", found.end()) else None
         if end and HANDLED.match(code, end):
@@ -111,8 +128,8 @@ def errors_of_write(code):
             yield found.start()
 
 
-def clones_of_a_map(code):
-    """What maps something names `clone`, or a closure ends in it."""
+def clones_of_a_map(code: str) -> Iterator[int]:
+    """Yields where what maps something names `clone`, or a closure ends in it."""
     for found in re.finditer(r"(?:\.|::)\s*\w*map\w*\s*(?:::\s*<[^()]*>\s*)?\(", code):
         if re.search(r"\bclone\b", code[found.end() : end_of_group(code, found.end() - 1)]):
             yield found.start()
@@ -120,31 +137,28 @@ def clones_of_a_map(code):
         yield found.start()
 
 
-def impls_on_all_types(code):
-    """A trait is given to each type that has a bound, and types may have the bound in one of the two alone."""
+def impls_on_all_types(code: str) -> Iterator[int]:
+    """Yields where all types with a bound get a trait, but may have the bound only in the kit."""
     for found in IMPL.finditer(code):
         bounds_of = parameters(code, found.end())
         end = end_of_angles(code, found.end())
-        header, _, where = re.sub(
-            r"\bwhere\b", "\n", " ".join(code[end : until(code, end, "{;")].split())
-        ).partition("\n")
+        line = " ".join(code[end : until(code, end, "{;")].split())
+        header, _, where = re.sub(r"\bwhere\b", "\n", line).partition("\n")
         trait, _, target = re.sub(r"\bfor\b(?!\s*<)", "\n", header).rpartition("\n")
         target = re.sub(r"^(?:&\s*(?:'\w+\s*)?(?:mut\s+)?|\s)*", "", target).strip("() ")
         for piece in split(where):
             name, _, bounds = piece.partition(":")
             bounds_of[name.strip()] = bounds_of.get(name.strip(), "") + "+" + bounds
-        is_known = {
-            bound.strip() for bound in bounds_of.get(target, "").split("+") if bound.strip()
-        } <= BLANKET
+        own = {bound.strip() for bound in bounds_of.get(target, "").split("+")} - {""}
         is_bare = trait and target in bounds_of
-        if is_bare and not (is_known and bounds_of[target].strip()):
+        if is_bare and not (own <= BLANKET and bounds_of[target].strip()):
             yield found.start()
         elif trait and any(re.search(DERIVED, bounds) for bounds in bounds_of.values()):
             yield found.start()
 
 
-def angles_around(code, begin, here):
-    """Each `<` behind which this place is, back to the statement's start."""
+def angles_around(code: str, begin: int, here: int) -> Iterator[int]:
+    """Yields each `<` after which this place is, back to the start of the statement."""
     depth, brackets, at = 0, 0, here - 1
     while at > begin and code[at] not in "{}" and not (code[at] == ";" and brackets <= 0):
         brackets += (code[at] == "]") - (code[at] == "[")
@@ -155,20 +169,20 @@ def angles_around(code, begin, here):
         at -= 1
 
 
-def types_of_self(code):
-    """In a trait's body a type has `Self` as its argument, and isn't what a call returns."""
-    for _, begin, end in bodies(code, TRAIT):
-        for found in re.finditer(r"\bSelf\b", code[begin:end]):
-            here = begin + found.start()
+def types_of_self(code: str) -> Iterator[int]:
+    """Yields where in a trait a type has `Self` as its argument, and no call returns it."""
+    for body in bodies(code, TRAIT):
+        for found in re.finditer(r"\bSelf\b", code[body.start : body.end]):
+            here = body.start + found.start()
             if any(
-                not RESULT.search(code, begin, at) or re.search(r"[&*]", code[at:here])
-                for at in angles_around(code, begin, here)
+                not RESULT.search(code, body.start, at) or re.search(r"[&*]", code[at:here])
+                for at in angles_around(code, body.start, here)
             ):
                 yield here
 
 
-def arrays_in_variants(code):
-    """A pattern that may not match names elements of an array in something else."""
+def arrays_in_variants(code: str) -> Iterator[int]:
+    """Yields where a pattern that may not match names elements of an array in something else."""
     for found in re.finditer(r"\blet\b", code):
         end = found.end()
         while True:
@@ -179,9 +193,8 @@ def arrays_in_variants(code):
                 break
             end += 1 + (code[end + 1 : end + 2] == "=")
         is_plain = not re.search(r"(?:\b(?:if|while)|&&|\|\||[(=])\s*$", code[: found.start()])
-        if is_plain and not re.search(
-            r"\belse\b", code[found.end() : until(code, found.end(), ";")]
-        ):
+        statement = code[found.end() : until(code, found.end(), ";")]
+        if is_plain and not re.search(r"\belse\b", statement):
             continue
         depth = 0
         for char in code[found.end() : end]:
@@ -191,24 +204,27 @@ def arrays_in_variants(code):
                 break
 
 
-def rests_of_elements(code):
-    """The rest of a struct is that of an element, which the kit doesn't read where all fields are written."""
+def rests_of_elements(code: str) -> Iterator[int]:
+    """Yields where the rest of a struct is that of an element.
+
+    The kit doesn't read the element where all fields are written.
+    """
     for found in re.finditer(r"[,{]\s*\.\.(?![.=])", code):
         rest = code[found.end() : until(code, found.end(), "")]
         if re.search(r"\[|\bindex(?:_mut)?\b", rest):
             yield found.start()
 
 
-def sizes_of_parameters(code):
-    """The size of a type that isn't named, which may be a closure's."""
+def sizes_of_parameters(code: str) -> Iterator[int]:
+    """Yields where the size is that of a type without a name, which may be a closure."""
     names = type_parameters(code) | {"Self", "_", "fn", "impl", "dyn"}
     for found in SIZE.finditer(code):
         if names & set(re.findall(r"\w+", code[found.end() : end_of_angles(code, found.end())])):
             yield found.start()
 
 
-def renames(code):
-    """An import gives something of std another name, or takes all names of a module."""
+def renames(code: str) -> Iterator[int]:
+    """Yields where an import gives a name of std another name, or has all names of a module."""
     for found in re.finditer(r"\buse\b[^;]*;", code):
         of_std = re.search(
             r"\b(?:std|core|alloc)\b|\buse\s+(?:\{|[^;]*\b(?:thread|iter|mem)\b)", found.group()
@@ -218,9 +234,9 @@ def renames(code):
             yield found.start()
 
 
-def methods_of_std(code, path):
-    """A trait names a method as one of std's: some calls run another one than in Rust."""
-    for found, begin, end in bodies(code, TRAIT):
-        named = set(re.findall(r"\bfn\s+(\w+)", code[begin:end])) & METHODS_OF_STD
-        if named and (path, found.group(1)) not in ALONE:
-            yield found.start()
+def methods_of_std(code: str, path: str) -> Iterator[int]:
+    """Yields where a trait names a method as std does: some calls run another one than in Rust."""
+    for body in bodies(code, TRAIT):
+        named = set(re.findall(r"\bfn\s+(\w+)", code[body.start : body.end])) & METHODS_OF_STD
+        if named and body.header[1] not in ALONE.get(path, set()):
+            yield body.header.start()
