@@ -33,12 +33,9 @@ pytestmark = RELEASE_MARKS
 LONG = 30 * TIMEOUT
 STRIPPED = ["crates", "others", "shims", "vintsaky"]  # the folders that cargo/strip writes
 OWN = ["CHANGELOG.md", "Cargo.lock", "Cargo.toml", "PROVENANCE", "README.md"]
-PAGES = [
-    "CHANGELOG.md",
-    "README.md",
-    "docs/rules.md",
-    *[f"docs/{page}" for page in pages.OF_LIBRARY],
-]
+PAGES = sorted(
+    ["CHANGELOG.md", "README.md", "docs/rules.md", *(f"docs/{page}" for page in pages.OF_LIBRARY)]
+)
 # What the README says before its first heading, in this order.
 SAID = [
     "sources of proved programs, with the contracts taken off",
