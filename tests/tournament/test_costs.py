@@ -63,7 +63,7 @@ def test_processes_of_a_game_that_twogtp_does_not_start(
 # up to eight times as long. If it looked at each result once for each other one, it would take a
 # hundred times as long, so other work on the machine makes no difference.
 LONGER = 20
-TRIES = 3  # of which the best one counts
+TRIES = 2  # of which the best one counts
 
 
 @pytest.fixture(scope="module")

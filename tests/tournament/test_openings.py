@@ -196,7 +196,7 @@ def game_with(number: int, rule: str) -> Tuple[RandomGame, str]:
     raise AssertionError(f"no game breaks the rule: {rule}")
 
 
-@pytest.mark.parametrize("number", range(15))
+@pytest.mark.parametrize("number", range(10))
 @pytest.mark.parametrize("rule", BROKEN)
 def test_rules_are_those_of_the_reference(rule: str, number: int, runner: Runner) -> None:
     game, move = game_with(number, rule)

@@ -128,7 +128,7 @@ def test_ten_games_in_a_row_end_the_run(runner: Runner) -> None:
 
 def test_ten_games_that_are_not_in_a_row(runner: Runner) -> None:
     runner.script("engine", FAILS)
-    words = [*engines(one="gtp_engine", bad="./engine 2"), "--jobs", "1", "--seeds", "11"]
+    words = [*engines(one="gtp_engine", bad="./engine 2"), "--jobs=1", "--seeds=11", "--direct"]
     done = runner.tournament("play", "all", *words, "--", "--size", "2", "--restarts", "0")
     assert done.status == 1
     assert done.output.splitlines()[-1] == "11 of 22 games have a result"

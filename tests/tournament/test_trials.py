@@ -253,27 +253,27 @@ done
 
 def test_what_an_engine_cannot_do_is_kept(runner: Runner) -> None:
     runner.script("engine", REFUSES_KOMI)
-    words = [*engines(bad="./engine", two="gtp_engine"), "--seeds", "4", "--", "--size", "2"]
+    words = [*engines(bad="./engine", two="gtp_engine"), "--seeds", "2", "--", "--size", "2"]
     runner.tournament("plan", "all", *words)
-    done = runner.shell("tournament list all | xargs -n 1 -P 8 tournament game all")
+    done = runner.shell("tournament list all | xargs -n 1 -P 4 tournament game all")
     name = f"all/tried/{os.uname().nodename}"
     refusal = "tournament: bad: it refuses 'komi 6.5': '?2 no komi'; the last line of"
     new = f"{refusal} {name}/bad.log is: komi\tfails\n"
     old = new.replace("\t", " ")[:-1] + f"; tried before: to try again, remove {name}/passed\n"
-    assert sorted(done.errors.splitlines(True)) == sorted([new, *[old] * 7])
-    assert (len(runner.games()), started(runner)) == (8, 1 + 8)
+    assert sorted(done.errors.splitlines(True)) == sorted([new, *[old] * 3])
+    assert (len(runner.games()), started(runner)) == (4, 1 + 4)
 
     def play(*words: object) -> Done:
         return runner.tournament("play", "all", *words)
 
-    assert (play("--seeds", "5")[::2], started(runner)) == ((1, old), 1 + 10)
+    assert (play("--seeds", "3")[::2], started(runner)) == ((1, old), 1 + 6)
     # other limits, no file, and --again: it is tried again
-    more = ["--seeds", "6", "--start-limit", "50"]
-    assert (play(*more)[::2], started(runner)) == ((1, new), 2 + 12)
+    more = ["--seeds", "4", "--start-limit", "50"]
+    assert (play(*more)[::2], started(runner)) == ((1, new), 2 + 8)
     passed = runner.folder / name / "passed"
     passed.unlink()
-    assert (play("--seeds", "7")[::2], started(runner)) == ((1, new), 3 + 14)
+    assert (play("--seeds", "5")[::2], started(runner)) == ((1, new), 3 + 10)
     with open(passed, "a") as file:
         file.write("unable\nunstarted x\nunable x\t")  # the last line was cut off
-    assert (play("--seeds", "8")[::2], started(runner)) == ((1, old), 3 + 16)
-    assert (play("--again")[::2], started(runner)) == ((1, new), 4 + 32)
+    assert (play("--seeds", "6")[::2], started(runner)) == ((1, old), 3 + 12)
+    assert (play("--again")[::2], started(runner)) == ((1, new), 4 + 24)
