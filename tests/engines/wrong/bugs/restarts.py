@@ -277,7 +277,8 @@ class ChoiceIsKeptByItsBoard(Kept):
         self.choices = dict(self.old or {})
 
     def choose(self, colour):
-        board = f"{self.size} {sorted(self.board.items())}"
+        stones = sorted((point, stone.value) for point, stone in self.board.items())
+        board = f"{self.size} {stones}"
         old = (self.old or {}).get(board)
         point = old and self.read_vertex(old) or super().choose(colour)
         assert point is not RESIGN  # no engine here resigns

@@ -9,7 +9,7 @@ from tests.engines.wrong.bug import (
     removed,
     shown_by,
 )
-from tests.references.engine.game import filled
+from tests.references.engine.game import Move, filled
 from tests.references.engine.values import BLACK, PASS, other
 
 from .captures import Counted
@@ -100,7 +100,7 @@ def refused_suicide_is_a_move(self, right, colour, point):
     """A suicide is refused, and is a move of the record that `undo` takes back."""
     if self.dies(colour, point):
         self.boards.append(self.board)
-        self.moves.append((colour, point))
+        self.moves.append(Move(colour, point))
     right(colour, point)
 
 

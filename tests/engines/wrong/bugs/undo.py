@@ -1,7 +1,7 @@
 """Undo."""
 from tests.engines.wrong.bug import KO, Bug, Counting, instead_of, on, plays, removed, shown_by
 from tests.references.engine.engine import Failure
-from tests.references.engine.game import EMPTY, POSITIONAL, Board, filled
+from tests.references.engine.game import EMPTY, POSITIONAL, Board, Move, filled
 from tests.references.engine.values import BLACK, PASS, WHITE, other
 
 from .captures import Counted
@@ -76,7 +76,7 @@ def empty_record_is_undone(self, right, arguments):
 def handicap_is_undone(self, right, points):
     """`undo` takes the stones of a handicap back."""
     self.boards.append(self.board)
-    self.moves.append((BLACK, points[0]))
+    self.moves.append(Move(BLACK, points[0]))
     right(points)
 
 
@@ -132,7 +132,7 @@ def genmoves_stay(self, right, arguments):
 def refused_play_is_undone(self, right, colour, point):
     """An illegal play is refused, and is a move of the record that `undo` takes back."""
     self.boards.append(self.board)
-    self.moves.append((BLACK, PASS))
+    self.moves.append(Move(BLACK, PASS))
     right(colour, point)
 
 
