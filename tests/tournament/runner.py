@@ -78,7 +78,9 @@ class Runner:
     ) -> None:
         self.kill_all()
         for process in self.started:
-            with process:  # which closes its streams and waits for its end
+            # which closes its streams, also that of a text which nobody reads, and waits for its
+            # end
+            with contextlib.suppress(BrokenPipeError), process:
                 pass
 
     def start(self, *command: object, **options: Any) -> subprocess.Popen[str]:
