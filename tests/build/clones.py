@@ -172,7 +172,16 @@ def last_line(output: str) -> str:
     return re.sub(", after .*", "", output.rstrip("\n").rpartition("\n")[2])
 
 
-def path_without_kit() -> str:
-    """Returns a PATH on which there is no rt."""
-    folders = os.environ["PATH"].split(os.pathsep)
-    return os.pathsep.join(folder for folder in folders if not shutil.which("rt", path=folder))
+def path_without_kit(folder: Path) -> str:
+    """Returns a PATH that has every command except rt, by links in this folder."""
+    places = []
+    for number, place in enumerate(os.environ["PATH"].split(os.pathsep)):
+        if shutil.which("rt", path=place):
+            links = folder / f"without_rt_{number}"
+            links.mkdir()
+            for file in Path(place).iterdir():
+                if file.name != "rt":
+                    (links / file.name).symlink_to(file)
+            place = str(links)
+        places.append(place)
+    return os.pathsep.join(places)

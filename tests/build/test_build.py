@@ -236,8 +236,8 @@ def test_kit_replaces_what_cargo_built(options: List[str], by_cargo: Clone) -> N
 
 
 @pytest.mark.kit
-def test_nothing_is_proved_without_the_kit(gated: Gated) -> None:
-    done = gated.clone.run("./build", "--proved", "small", PATH=path_without_kit())
+def test_nothing_is_proved_without_the_kit(gated: Gated, tmp_path: Path) -> None:
+    done = gated.clone.run("./build", "--proved", "small", PATH=path_without_kit(tmp_path))
     report = "build: there is no Rattle kit (rt), without which nothing is proved\n"
     assert (done.returncode, done.stdout + done.stderr) == (1, report)
 

@@ -237,7 +237,7 @@ def builder(tree: Path, tmp_path_factory: pytest.TempPathFactory) -> Builder:
         CARGO_HOME=str(folder / "home"),
         CARGO_INSTALL_ROOT=str(folder / "installed"),
         CARGO_NET_OFFLINE="true",
-        PATH=path_without_kit(),
+        PATH=path_without_kit(folder),
         PYTHONDONTWRITEBYTECODE="1",
     )
     assert shutil.which("rt", path=own["PATH"]) is None
