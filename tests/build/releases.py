@@ -6,6 +6,7 @@ import os
 import re
 import shutil
 import sys
+import tempfile
 from concurrent.futures import ThreadPoolExecutor
 from pathlib import Path
 from subprocess import CompletedProcess
@@ -93,9 +94,11 @@ def missing_for_a_release() -> Optional[str]:
         if done.returncode:
             reason: str = done.stderr.strip()
             return reason
-    for program in PROGRAMS:
-        if not object_file(TOP, program).is_file():
-            return f"rt ci kept no object file of {program}: ./build {program} keeps one"
+    with tempfile.TemporaryDirectory() as folder:
+        for program in PROGRAMS:
+            files = [object_file(TOP, program), TOP / "bin" / program, Path(folder, program)]
+            if run([TOP / "packaging/link", *files]).returncode == 3:
+                return f"rt ci kept no object file of this {program}: ./build {program} keeps one"
     return None
 
 
