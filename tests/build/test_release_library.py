@@ -174,9 +174,7 @@ def test_shared_library_is_made_known(
 
 def test_packages_have_the_library(library_packages: Path) -> None:
     files = {f"{LIBRARIES}/{name}": TOP / "bin" / name for name in LIBRARY}
-    check_files(
-        library_packages, {"usr/include/vintsaky.h": TOP / "library/vintsaky.h", **files}
-    )
+    check_files(library_packages, {"usr/include/vintsaky.h": TOP / "library/vintsaky.h", **files})
     assert os.readlink(library_packages / LIBRARIES / "libvintsaky.so") == "libvintsaky.so.1"
 
 
@@ -232,9 +230,7 @@ each_block = pytest.mark.parametrize("number", range(len(BLOCKS)), ids=BLOCKS)
 
 
 @each_block
-def test_archive_does_what_its_page_shows(
-    number: int, archive_tree: Path, tmp_path: Path
-) -> None:
+def test_archive_does_what_its_page_shows(number: int, archive_tree: Path, tmp_path: Path) -> None:
     folder = tmp_path / "archive"
     shutil.copytree(archive_tree, folder, symlinks=True)
     run_block(folder / "docs", number, folder, "")
@@ -248,9 +244,7 @@ def all_packages(releases: Releases, tmp_path_factory: pytest.TempPathFactory) -
 
 
 @each_block
-def test_packages_do_what_their_page_shows(
-    number: int, all_packages: Path, tmp_path: Path
-) -> None:
+def test_packages_do_what_their_page_shows(number: int, all_packages: Path, tmp_path: Path) -> None:
     run_block(
         all_packages / "usr/share/doc/vintsaky/docs",
         number,

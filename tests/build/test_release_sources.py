@@ -74,9 +74,7 @@ def tree(source_trees: Trees) -> Path:
 # ---- files
 
 
-def test_both_archives_have_a_folder_of_their_name(
-    releases: Releases, source_trees: Trees
-) -> None:
+def test_both_archives_have_a_folder_of_their_name(releases: Releases, source_trees: Trees) -> None:
     names = [f"vintsaky-{release.name}-src" for release in (releases.one, releases.final)]
     assert [tree.name for tree in source_trees] == names
 

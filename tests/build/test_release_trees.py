@@ -324,9 +324,7 @@ def outcome(done: CompletedProcess[str]) -> List[Any]:
 
 
 @pytest.mark.parametrize("trial", TRIALS, ids=lambda trial: trial.name)
-def test_program_in_an_empty_root_does_the_same_as_the_built_one(
-    trial: Trial, root: Path
-) -> None:
+def test_program_in_an_empty_root_does_the_same_as_the_built_one(trial: Trial, root: Path) -> None:
     built = run(trial.command, trial.text, cwd=TOP, timeout=10 * TIMEOUT)
     done = run([*enter_root(root), *trial.command], trial.text, timeout=10 * TIMEOUT)
     assert outcome(done) == outcome(built)
