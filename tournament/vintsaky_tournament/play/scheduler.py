@@ -1,4 +1,4 @@
-"""All games of a plan that have no result, or one of them."""
+"""Plays all games of a plan that have no result."""
 from __future__ import annotations
 
 import contextlib
@@ -16,18 +16,16 @@ from ..output import NoStart
 from ..store import results
 from ..store.layout import InTheWay, Places, Taken, clear_running, make_folders
 from .game import no_result
+from .known import NO_START, KnownEngines
 from .progress import Progress
 from .run import Run
-from .trials import Tried
 
 if TYPE_CHECKING:
     from ..cluster import Share
 
 AGAIN = 3  # seconds for which games are tried that another process holds, which may be about to end
 PAUSE = 0.2  # seconds between two such tries
-SHORT = 0.6  # seconds for which one game is tried that another process holds, perhaps to look at it
 SPARE = 10  # seconds that a game may take besides its limit, and the end of the run
-NO_START = 69  # the status where an engine can't be started
 IN_A_ROW = 10  # games in which an engine isn't started, after which the run ends
 
 
@@ -53,7 +51,7 @@ class Play:
         self.later = array("Q")  # games that another process plays
         # of a game that is played again: the inode of its old result, until there is a new one
         self.old: dict[int, int] = {}
-        self.tried = Tried(run, plan)
+        self.known = KnownEngines(run, plan)
         self.has_played = False  # whether a game was begun
         self.not_started: Counter[str] = Counter()  # in how many games in a row an engine wasn't
         # whether these were too many, or an engine can't be started at all
@@ -85,7 +83,7 @@ class Play:
                 with contextlib.suppress(FileNotFoundError):
                     self.old[game] = os.stat(Places(self.run.folder, name).result).st_ino
                 self.states[game] = State.MISSING
-                self.tried.again.update(GameId.parse(name).engines)
+                self.known.again.update(GameId.parse(name).engines)
         self.count = self.with_result()
 
     def add_result(self, game: int, result: Result) -> None:
@@ -182,7 +180,7 @@ class Play:
         """Counts that an engine wasn't started in a game. Where these are too many in a row, no
         other game is begun."""
         self.not_started[engine] += 1
-        self.tried.note_failed(engine)
+        self.known.note_failed(engine)
         if self.not_started[engine] >= IN_A_ROW and not self.is_unable:
             self.is_unable = True
             output.report(
@@ -237,7 +235,7 @@ class Play:
         """Tries these engines. Where some can't be started no game is begun, and these are
         returned."""
         try:
-            self.tried.try_all(names)
+            self.known.try_all(names)
         except NoStart as problem:
             self.is_unable = True
             output.report(problem.text)
@@ -317,68 +315,3 @@ class Play:
         others = len(self.later) if self.share else 0  # of a task that was submitted twice
         has_all = self.count + others >= self.total and not self.count_of(State.LOST)
         return 0 if has_all and self.is_written and not self.run.stopped else 1
-
-
-class One:
-    """One game of a plan, by its name."""
-
-    def __init__(self, plan: Plan, folder: str, twogtp: str, name: str) -> None:
-        self.run, self.name = Run(plan, folder, twogtp), name
-        self.tried, self.engines = Tried(self.run, plan), GameId.parse(name).engines
-
-    def begin(self) -> int | None:
-        """Begins it. Returns the status where that is known by then: it has a result, another
-        process plays it, or it can't be begun."""
-        try:
-            if not self.run.has_result(self.name):
-                self.tried.try_all(self.engines)
-            until = time.monotonic() + SHORT
-            while not self.run.stopped:
-                try:
-                    return 0 if self.run.begin(self.name) else None
-                except Taken:
-                    if time.monotonic() > until:
-                        return self.taken()
-                self.run.wait_for_signal(PAUSE)
-        except NoStart as problem:
-            output.report(f"{self.name}: {problem.text}")
-            return NO_START
-        except InTheWay as problem:
-            output.report(f"{self.name}: no result: {problem.text}")
-            return 1
-        except OSError as error:
-            output.report(f"{self.name}: no result: {output.description(error)}")
-            self.run.end_without_space(error)
-            return 1
-        return self.run.stop_status()
-
-    def taken(self) -> int:
-        """Reports that another process plays it, and returns the status."""
-        output.report(f"{self.name}: another process plays it")
-        return 0
-
-    def end(self) -> int:
-        """Waits for its end, and returns the status."""
-        result, outcome = None, Outcome.RESULT
-        while self.run.playing:
-            for _, outcome, result in self.run.wait():
-                if outcome.not_started is not None:
-                    self.tried.note_failed(self.engines[outcome.not_started])
-        self.run.tree.end()
-        if outcome is Outcome.TAKEN:
-            return self.taken()
-        if not result:
-            return self.run.stop_status() if self.run.stopped else 1
-        try:
-            output.write(output.STDOUT, f"{self.name}: {result.line}\n")
-        except OSError:
-            output.report(f"{self.name}: it has a result, but this line was not written")
-            return 1
-        return 1 if result.is_lost() else 0
-
-
-def play_one(plan: Plan, folder: str, twogtp: str, name: str) -> int:
-    """Plays a game, unless it has a result or another process plays it, and returns the status."""
-    one = One(plan, folder, twogtp, name)
-    status = one.begin()
-    return one.end() if status is None else status

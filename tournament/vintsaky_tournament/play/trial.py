@@ -16,12 +16,13 @@ import time
 from typing import TYPE_CHECKING, NamedTuple, NoReturn
 
 from .. import processes
-from ..relay.conversation import ANSWER_HELD as LONGEST
 from . import process_tree
 
 if TYPE_CHECKING:
     from ..config.setup import Setup
+    from .known import Limits
 
+LONGEST = 8192  # bytes of an answer, as for twogtp
 LAST = 2  # seconds in which it may end by itself, and in which it may say what it is
 CHUNK = 65536
 SHOWN = 80  # bytes of an answer that are shown
@@ -34,14 +35,6 @@ class Passed(enum.IntEnum):
     PARTLY = 1  # something was refused
     NOTHING = 2  # nothing was answered
     BROKEN = 3  # the trial itself failed
-
-
-class Limits(NamedTuple):
-    """How many seconds an answer may take, a move, and the end."""
-
-    answer: float
-    move: float
-    end: float
 
 
 class Report(NamedTuple):
@@ -252,8 +245,3 @@ def report_of(status: int, text: str) -> Report:
     """Returns the report of a trial, by the status of its process and what that wrote."""
     failure, _, version = text.partition("\0")
     return Report(passed_of(status), failure, version)
-
-
-def limits_of(start: str | int, move: str | int, limit: int) -> Limits:
-    """Returns the limits of a trial, by those of a plan."""
-    return Limits(float(start), float(move), min(float(start), float(limit)))

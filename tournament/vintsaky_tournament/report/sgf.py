@@ -1,14 +1,16 @@
 """A game's record in SGF (FF[4]): a column and a row of letters, from the upper left."""
 from __future__ import annotations
 
-from typing import TYPE_CHECKING, Sequence
+import contextlib
+import os
+from typing import Iterable, Sequence
 
 from ..config.rules import PASS, column_and_row, handicap_points
 from ..config.setup import Setup
-from ..model import Ending, Side, Way
+from ..model import Ending, Plan, Side, Way
+from ..output import Mistake
+from ..stats.records import Record
 
-if TYPE_CHECKING:
-    from .export import Row
 
 LETTERS = {Side.BLACK: "B", Side.WHITE: "W"}
 WON_BY = {Way.RESIGNED: "R", Way.LATE: "T", Way.TIME: "T"}  # without points, and else by forfeit
@@ -26,9 +28,9 @@ class Board:
         """Returns the side that moves first."""
         return Side.WHITE if self.stones else Side.BLACK
 
-    def record(self, row: Row) -> str:
+    def text(self, record: Record) -> str:
         """Returns the record of a game."""
-        version = row.twogtp_version
+        version = record.twogtp_version
         properties = {
             "FF": 4,
             "GM": 1,
@@ -37,18 +39,18 @@ class Board:
             "SZ": self.size,
             "KM": self.komi,
             "HA": self.handicap or None,
-            "PB": row.black,
-            "PW": row.white,
-            "RE": result(row.verdict, row.ending),
-            "GN": row.game,
-            "C": row.verdict,
+            "PB": record.black,
+            "PW": record.white,
+            "RE": result(record.verdict, record.ending),
+            "GN": record.game,
+            "C": record.verdict,
         }
         root = "".join(
             f"{name}[{value}]" for name, value in properties.items() if value is not None
         )
         if self.stones:
             root += "AB" + "".join(f"[{self.point(*stone)}]" for stone in self.stones)
-        moves = row.result.moves(self.first())
+        moves = record.result.moves(self.first())
         nodes = "".join(f";{LETTERS[side]}[{self.vertex(vertex)}]" for side, vertex in moves)
         return f"(;{root}\n{nodes})\n"
 
@@ -74,3 +76,33 @@ def result(verdict: str, ending: Ending) -> str:
 def escaped(text: str) -> str:
     """Returns a text within brackets, in front of a colon or behind it."""
     return "".join(f"\\{each}" if each in "\\]:" else each for each in text)
+
+
+def write_records(records: Iterable[Record], plan: Plan, folder: str) -> None:
+    """Writes a file for each game into a folder, which is new or empty. Where one can't be written,
+    none is left."""
+    is_there, board = os.path.isdir(folder), Board(plan.options)
+    places: list[str] = []
+    if is_there and os.listdir(folder):
+        raise Mistake(f"{folder} isn't empty: name a new directory for --sgf")
+    try:
+        os.makedirs(folder, exist_ok=True)
+        for record in records:
+            places.append(f"{folder}/{record.game}.sgf")
+            with open(places[-1], "x", encoding="utf-8") as file:
+                file.write(board.text(record))
+    except BaseException as error:
+        for place in places:
+            with contextlib.suppress(OSError):
+                os.unlink(place)
+        if not is_there:
+            with contextlib.suppress(OSError):
+                os.rmdir(folder)
+        if isinstance(error, OSError):
+            is_own = error.filename in (None, *places[-1:])
+            raise OSError(
+                error.errno,
+                f"no file of --sgf is left: {error.strerror}",
+                folder if is_own else error.filename,
+            ) from None
+        raise

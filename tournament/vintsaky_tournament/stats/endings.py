@@ -1,14 +1,10 @@
 """How games ended, for the tally and for exports: who won, and who is to blame where nobody did."""
 from __future__ import annotations
 
-from typing import TYPE_CHECKING, Collection, NamedTuple
+from typing import Collection, NamedTuple
 
 from ..model import COLOURS, SIDES, Ending, Plan, Result, Way
-from ..output import Mistake
 from ..store import notes
-
-if TYPE_CHECKING:
-    from ..config.arguments import Words
 
 WITHOUT_WINNER = {"0": Way.DRAWN, "limit": Way.LIMIT}
 
@@ -71,24 +67,3 @@ class Endings:
             way = Way.LATE if found.late[side] else way
         winner = side.other if way in self.losing else None
         return Ended(Ending(winner, side, way), (black, white))
-
-
-def losing_ways(words: Words, plan: Plan) -> tuple[Way, ...]:
-    """Returns the ways in which a side loses, by the options."""
-    for name in ("--abandoned", "--late"):
-        words.last(name, check_loses)
-    if words.has("--late") and plan.is_direct:
-        raise Mistake(
-            "which side was late is known only where `between` stands: leave out --late, or write "
-            "--abandoned loses"
-        )
-    if words.has("--abandoned"):
-        return Way.ABANDONED, Way.LATE
-    return (Way.LATE,) if words.has("--late") else ()
-
-
-def check_loses(name: str, value: str) -> str:
-    """Returns the only value that such an option has."""
-    if value != "loses":
-        raise Mistake(f"{name} needs the word loses after it, and not '{value}'")
-    return value

@@ -1,23 +1,16 @@
-"""The command `tally`: counts the results of a tournament, and prints them as text."""
+"""The tally as text."""
 from __future__ import annotations
 
-import gc
 import math
 from functools import lru_cache
 from typing import Iterator, Sequence
 
-from .. import output
-from ..config.arguments import Words
-from ..config.help import HELP
-from ..config.plan_file import read_plan
 from ..model import Side, Way
-from ..output import Mistake
 from ..stats import scores
-from ..stats.endings import losing_ways
 from ..stats.pairs import Found
 from ..stats.scores import Cluster
-from ..stats.sprt import Test, asked_of
-from ..stats.summary import Counts, EngineRow, PairingRow, Row, Summary, without_result
+from ..stats.sprt import Test
+from ..stats.summary import EngineRow, PairingRow, Row, Summary, without_result
 
 MOST_GROUPS = 10  # of games that are the same
 NO_PAIRS = "    -  -                 -"
@@ -161,33 +154,22 @@ def in_elo(score: float) -> str:
     return f"{elo:+}" if math.isinf(elo) else f"{round(elo):+}"
 
 
-def is_out(name: str, value: str) -> bool:
-    """Returns whether games that nobody won are to be left out, by the value of an option."""
-    if value not in ("half", "out"):
-        raise Mistake(f"{name} needs half or out after it, and not '{value}'")
-    return value == "out"
+def line_of_test(test: Test) -> str:
+    """Returns what a sequential test says."""
+    low, high = (f"{difference:g} Elo" for difference in test.differences)
+    accepted = {0: f"{low} accepted, not {high}", 1: f"{high} accepted, not {low}"}
+    said = "go on" if test.decision is None else accepted[test.decision]
+    bounds = f"{-scores.BOUND:.2f} and {scores.BOUND:.2f}"
+    ratios = f"log likelihood ratio {test.ratio:.2f}, exact {test.exact:.2f}, bounds {bounds}"
+    count = f"{sum(test.counts)} pairs{lacking(test.counts)}"
+    return f"{' - '.join(test.engines)}: {said}: {count}, {ratios}"
 
 
-def main(arguments: Sequence[str]) -> int:
-    """Writes the tally of a folder, and returns the status."""
-    words = Words("tally", arguments)
-    if words.is_help:
-        output.write(output.STDOUT, HELP["tally"])
-        return 0
-    gc.disable()  # nothing here has cycles, and with many engines the search takes half the time
-    (folder,) = words.places
-    plan = read_plan(folder)
-    asked, leave_out = asked_of(words, plan), words.last("--no-winner", is_out)
-    counts = Counts(plan, folder, losing_ways(words, plan), bool(leave_out))
-    test = Test(counts.pairs, asked) if asked else None
-    if words.has("--json"):
-        from .as_json import json_of  # which isn't needed elsewhere
-
-        output.write(output.STDOUT, json_of(Summary(counts), test))
-    elif test:
-        output.write(output.STDOUT, f"{test.line()}\n")
-    else:
-        output.write_lines(output.STDOUT, Table(Summary(counts)).lines())
-    if test:
-        return test.status()
-    return 0 if counts.have == counts.games.count else 1
+def lacking(counts: Sequence[int]) -> str:
+    """Returns which pairs are needed before a test says anything; an empty text where none are."""
+    if sum(counts) < scores.FEWEST:
+        return f" (at least {scores.FEWEST} are needed)"
+    others = scores.others(counts)
+    if others < scores.FEWEST_OTHERS:
+        return f" ({others} unlike most; at least {scores.FEWEST_OTHERS} are needed)"
+    return ""

@@ -1,26 +1,22 @@
-"""The command `tournament`."""
+"""The commands `tournament play` and `tournament plan`."""
 from __future__ import annotations
 
-import contextlib
 import os
-import signal
-from typing import TYPE_CHECKING, Callable, NamedTuple, Sequence
+from typing import TYPE_CHECKING, NamedTuple
 
-from . import output
-from .cluster import share, time_left
-from .config.arguments import OF_PLAY, Words, processors
-from .config.changes import Folder, plan_for, warning_of
-from .config.help import HELP
-from .config.plan_file import read_plan, write_plan
-from .config.values import number, seconds
-from .model import Plan, State
-from .output import STDERR, STDOUT, Mistake
-from .play.programs import find_twogtp, try_options
-from .store import results
-from .store.layout import make_folders
+from .. import output
+from ..cluster import share, time_left
+from ..config.arguments import OF_PLAY, Words, processors
+from ..config.changes import Folder, plan_for, warning_of
+from ..config.plan_file import read_plan, write_plan
+from ..config.values import number, seconds
+from ..model import Plan
+from ..output import Mistake
+from ..play.programs import find_twogtp, try_options
+from ..store.layout import make_folders
 
 if TYPE_CHECKING:
-    from .config.openings import Opening
+    from ..config.openings import Opening
 
 TAKEN_BY_DIRECT = ("--move-limit", "--start-limit", "--openings")  # what it leaves out
 
@@ -68,7 +64,7 @@ def prepare(words: Words) -> Prepared:
     twogtp = find_twogtp()
     try_options(twogtp, folder.plan.options)
     if openings and folder.is_new:
-        from .config.openings import check  # which isn't needed elsewhere
+        from ..config.openings import check  # which isn't needed elsewhere
 
         check(openings, folder.plan.options)
     warning = warning_of(folder.plan)
@@ -86,15 +82,15 @@ def write(prepared: Prepared) -> None:
 
 def read_openings(_: str, place: str) -> list[Opening]:
     """Returns the openings of the file that an option names."""
-    from .config.openings import read  # which isn't needed elsewhere
+    from ..config.openings import read  # which isn't needed elsewhere
 
     return read(place)
 
 
 def do_play(words: Words) -> int:
     """Plays a tournament, and returns the status."""
-    from .play.run import Run
-    from .play.scheduler import Play
+    from ..play.run import Run
+    from ..play.scheduler import Play
 
     prepared = prepare(words)
     plan, folder = prepared.folder.plan, prepared.folder
@@ -127,83 +123,3 @@ def do_plan(words: Words) -> int:
             f"a plan doesn't keep {' and '.join(not_kept)}: give {them} to tournament play"
         )
     return 0
-
-
-def do_list(words: Words) -> int:
-    """Prints the games of a plan, and returns the status."""
-    (folder,) = words.places
-    plan = read_plan(folder)
-    games = plan.games()
-    names = iter(games)
-    if not words.has("--all"):
-        states = results.states_of(plan, folder)
-        names = (
-            games.name(game)
-            for game, state in enumerate(states)
-            if state in (State.MISSING, State.DAMAGED)
-        )
-    output.write_lines(STDOUT, names)
-    return 0
-
-
-def do_game(words: Words) -> int:
-    """Plays a game, and returns the status."""
-    from .play.scheduler import play_one
-
-    folder, name = words.places
-    plan = read_plan(folder)
-    if plan.games().number(name) is None:
-        raise Mistake(
-            f"{folder}/plan has no game '{name}': a game is named SEED_BLACK_WHITE, and "
-            "tournament list --all prints them"
-        )
-    twogtp = find_twogtp()
-    make_folders(folder)
-    return play_one(plan, folder, twogtp, name)
-
-
-def do_export(words: Words) -> int:
-    """Exports the results, and returns the status."""
-    from .report.export import export  # which isn't needed elsewhere
-
-    return export(words)
-
-
-COMMANDS = {"play": do_play, "plan": do_plan, "list": do_list, "game": do_game, "export": do_export}
-
-
-def main(arguments: Sequence[str]) -> int:
-    """Does what the arguments ask for, and returns the status."""
-    if not arguments or arguments[0] in ("-h", "--help"):
-        output.write(STDOUT if arguments else STDERR, HELP[None])
-        return 0 if arguments else 2
-    name = arguments[0]
-    if name not in COMMANDS:
-        raise Mistake(
-            f"there is no command '{name}': write tournament play, plan, list, game or export"
-        )
-    words = Words(name, arguments[1:])
-    if words.is_help:
-        output.write(STDOUT, HELP[name])
-        return 0
-    return COMMANDS[name](words)
-
-
-def run(name: str, main_of: Callable[[Sequence[str]], int], arguments: Sequence[str]) -> int:
-    """Runs the main function of a command, and returns its status. Errors are reported."""
-    output.hold_streams()
-    output.set_program(name)
-    # whoever started it may ignore the ends of processes
-    signal.signal(signal.SIGCHLD, signal.SIG_DFL)
-    try:
-        return main_of(arguments)
-    except Mistake as mistake:
-        with contextlib.suppress(OSError):
-            output.write(STDERR, mistake.printed)
-        output.report(mistake.text)
-        return 2
-    except BrokenPipeError:
-        return 128 + signal.SIGPIPE
-    except OSError as error:
-        output.report(output.description(error))
-        return 1

@@ -1,0 +1,45 @@
+"""The command `tournament export`: the results for other programs."""
+from __future__ import annotations
+
+import os
+from typing import TYPE_CHECKING
+
+from .. import output
+from ..config.plan_file import read_plan
+from ..output import Mistake
+from ..stats.records import Records
+from .losses import losing_ways
+
+if TYPE_CHECKING:
+    from ..config.arguments import Words
+
+FORMS = ("--pgn", "--csv", "--jsonl", "--sgf")
+
+
+def do_export(words: Words) -> int:
+    """Writes what is asked for, and returns the status."""
+    forms = [form for form in FORMS if words.has(form)]
+    if len(forms) != 1:
+        raise Mistake("write one of --pgn, --csv, --jsonl and --sgf FOLDER")
+    (folder,) = words.places
+    plan = read_plan(folder)
+    records = Records(plan, folder, losing_ways(words, plan))
+    sgf_folder = words.last("--sgf", lambda _, place: place)
+    if sgf_folder is not None:
+        from ..report.sgf import write_records
+
+        write_records(records, plan, sgf_folder)
+    elif words.has("--pgn"):
+        from ..report.pgn import as_pgn
+
+        event = os.path.basename(os.path.abspath(folder))
+        output.write_lines(output.STDOUT, as_pgn(records, event))
+    else:
+        from ..report.tables import as_csv, as_jsonl
+
+        lines = as_csv(records) if words.has("--csv") else as_jsonl(records)
+        output.write_lines(output.STDOUT, lines)
+    if records.without:
+        count = f"{records.without} of {records.games.count} games"
+        output.report(f"without a result, and so not exported: {count}")
+    return 0

@@ -1,0 +1,77 @@
+"""The command `tournament`, which has commands of its own."""
+from __future__ import annotations
+
+from typing import TYPE_CHECKING, Sequence
+
+from .. import output
+from ..config.arguments import Words
+from ..output import STDERR, STDOUT, Mistake
+
+if TYPE_CHECKING:
+    from typing import Callable
+
+
+def play(words: Words) -> int:
+    """Plays a tournament, and returns the status."""
+    from .play import do_play
+
+    return do_play(words)
+
+
+def plan(words: Words) -> int:
+    """Makes a plan, or adds to one, and returns the status."""
+    from .play import do_plan
+
+    return do_plan(words)
+
+
+def list_games(words: Words) -> int:
+    """Prints the games of a plan, and returns the status."""
+    from .games import do_list
+
+    return do_list(words)
+
+
+def game(words: Words) -> int:
+    """Plays a game, and returns the status."""
+    from .games import do_game
+
+    return do_game(words)
+
+
+def export(words: Words) -> int:
+    """Exports the results, and returns the status."""
+    from .export import do_export
+
+    return do_export(words)
+
+
+# each imports what it needs alone, since modules are compiled at each start
+COMMANDS: dict[str, Callable[[Words], int]] = {
+    "play": play,
+    "plan": plan,
+    "list": list_games,
+    "game": game,
+    "export": export,
+}
+
+
+def main(arguments: Sequence[str]) -> int:
+    """Does what the arguments ask for, and returns the status."""
+    if not arguments or arguments[0] in ("-h", "--help"):
+        return show_help(None, STDOUT if arguments else STDERR, 0 if arguments else 2)
+    name = arguments[0]
+    if name not in COMMANDS:
+        raise Mistake(
+            f"there is no command '{name}': write tournament play, plan, list, game or export"
+        )
+    words = Words(name, arguments[1:])
+    return show_help(name, STDOUT, 0) if words.is_help else COMMANDS[name](words)
+
+
+def show_help(name: str | None, descriptor: int, status: int) -> int:
+    """Writes the help of a command, or that of all, and returns the status."""
+    from ..config.help import HELP
+
+    output.write(descriptor, HELP[name])
+    return status

@@ -1,0 +1,116 @@
+"""What is known of each game that has a result, for exports."""
+from __future__ import annotations
+
+from typing import Iterator, NamedTuple, Sequence
+
+from ..cluster import Share
+from ..model import Ending, Plan, Result, Way
+from ..store import notes, results
+from ..store.versions import versions_of
+from .endings import Endings
+
+ALL = Share(1, 1)
+LONGEST_HOST = 64  # characters
+
+
+class Record(NamedTuple):
+    """A game that has a result, and what is known of it."""
+
+    game: str
+    black: str
+    white: str
+    seed: int
+    opening: int | None  # its number in the plan
+    verdict: str
+    winner: str | None
+    moves: int
+    black_seconds: float | None
+    white_seconds: float | None
+    host: str | None
+    black_version: str | None
+    white_version: str | None
+    twogtp_version: str | None
+    ending: Ending
+    result: Result
+
+    @property
+    def values(self) -> Sequence[object]:
+        """Returns the values of FIELDS."""
+        return self[: len(FIELDS)]
+
+
+FIELDS = Record._fields[:-2]
+
+
+class Noted(NamedTuple):
+    """What the notes of a game say: the machine, and how long both sides thought."""
+
+    host: str | None = None
+    black_seconds: float | None = None
+    white_seconds: float | None = None
+
+
+class Records:
+    """The games of a folder that have a result, in the plan's order."""
+
+    def __init__(self, plan: Plan, folder: str, losing: Sequence[Way]) -> None:
+        self.plan, self.folder, self.games = plan, folder, plan.games()
+        self.endings = Endings(plan, folder, losing)
+        self.versions: dict[str | None, dict[str, str | None]] = {None: {}}  # on each machine
+        self.without = self.games.count  # those that have no result
+
+    def __iter__(self) -> Iterator[Record]:
+        states = bytearray(self.games.count)
+        for game, result in results.of_share(self.plan, self.folder, ALL, states):
+            if result:
+                self.without -= 1
+                yield self.record(game, result)
+
+    def record(self, game: int, result: Result) -> Record:
+        """Returns what is known of a game."""
+        seed, at = divmod(game, len(self.games.sides))
+        (black, white), name = self.games.sides[at], self.games.name(game)
+        ending, openings = self.endings.of(game, result).ending, self.plan.openings
+        noted = self.noted(name, result)
+        versions = self.versions_on(noted.host)
+        return Record(
+            game=name,
+            black=black,
+            white=white,
+            seed=seed + 1,
+            opening=seed % len(openings) + 1 if openings else None,
+            verdict=result.verdict,
+            winner=None if ending.winner is None else ending.winner.colour,
+            moves=result.length,
+            black_seconds=noted.black_seconds,
+            white_seconds=noted.white_seconds,
+            host=noted.host,
+            black_version=versions.get(f"engine {black}"),
+            white_version=versions.get(f"engine {white}"),
+            twogtp_version=versions.get("twogtp"),
+            ending=ending,
+            result=result,
+        )
+
+    def noted(self, name: str, result: Result) -> Noted:
+        """Returns what the notes of a game say, if they are of this result."""
+        data = notes.bytes_for(self.folder, name, result.line)
+        if data is None:
+            return Noted()
+        text = data.decode("latin-1")
+        host = text.partition("\n")[0].partition(" on ")[2]
+        black, white = notes.Notes(text).thought
+        return Noted(host if is_host(host) else None, round(black, 3), round(white, 3))
+
+    def versions_on(self, host: str | None) -> dict[str, str | None]:
+        """Returns the versions of the programs on a machine, as they were tried there."""
+        if host not in self.versions:
+            self.versions[host] = versions_of(f"{self.folder}/tried/{host}")
+        return self.versions[host]
+
+
+def is_host(text: str) -> bool:
+    """Returns whether a machine may have this name, which is part of a path: notes may be
+    damaged."""
+    is_name = text.isprintable() and "/" not in text and text.strip(".") != ""
+    return is_name and 0 < len(text) <= LONGEST_HOST
