@@ -65,7 +65,7 @@ def only(*lessons: str) -> List[str]:
 
 def notes_of(report: Report) -> List[str]:
     """Returns what the last lines say, except of the lessons that the options leave out."""
-    return [it for it in report.notes if not it.startswith("not asked, as the options say: ")]
+    return [note for note in report.notes if not note.startswith("not asked, as the options say: ")]
 
 
 class Ended(NamedTuple):

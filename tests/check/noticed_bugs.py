@@ -197,15 +197,15 @@ WAITING = {
     "first_read_is_lost",
     "replies_are_held",
 }
-# Bugs whose answers depend on how the commands are cut into reads, or on earlier processes. Pasted
-# into another process, their conversation may be answered rightly.
+# Bugs whose answers depend on how the commands are cut into reads, on earlier processes, or on the
+# depth of the stack. Pasted into another process, their conversation may be answered otherwise.
 NOT_PASTED = {
     *WAITING,
     *("reads_of_sixty_four", "id_of_the_last_line_of_a_read", "last_line_of_a_read_is_first"),
     *("trial_is_over", "note_after_a_crash", "eleventh_start_fails"),
     *("old_game_is_a_book", "old_game_comes_back", "old_board_comes_back_at_undo"),
     *("old_moves_are_undone", "old_ko_stays", "game_is_resumed_at_its_first_move"),
-    *("old_colour_stays", "book_has_no_sizes"),
+    *("old_colour_stays", "book_has_no_sizes", "regions_are_filled_by_recursion"),
 }
 
 

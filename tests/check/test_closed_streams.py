@@ -37,9 +37,9 @@ def test_check(gtp_check: Path, gtp_engine: Path, closed: Closed, tmp_path: Path
     assert (SUMMARY.search(result.output) is None) == (OUTPUT in closed)
     # an engine that is still writing when the program ends reports that too
     lines = result.errors.splitlines()
-    lines = [it for it in lines if OUTPUT not in closed or it != "gtp_engine: write fault"]
+    lines = [line for line in lines if OUTPUT not in closed or line != "gtp_engine: write fault"]
     faults = ["gtp_check: write fault"] if OUTPUT in closed and ERRORS not in closed else []
-    assert [it for it in lines if it in faults] == faults
+    assert [line for line in lines if line in faults] == faults
     assert {*lines} - {*faults} == (set() if ERRORS in closed else {"checked speaks"})
     engine.check_streams(closed)
 

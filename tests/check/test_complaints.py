@@ -18,7 +18,8 @@ MOST_SHOWN = 40  # lines of a conversation, in place of hundreds
 def right_answers(run_engine: RunEngine, lines: Sequence[str]) -> Dict[str, str]:
     """Returns what the right engine answers to each line. A success has no mark and no id."""
     output = run_engine(Plain, ["".join(f"{line}\n" for line in lines)], []).outputs[0]
-    return dict(zip(lines, (re.sub(r"^=\d+ ?", "", it) for it in output.split("\n\n"))))
+    answers = [re.sub(r"^=\d+ ?", "", answer) for answer in output.split("\n\n")]
+    return dict(zip(lines, answers))
 
 
 def only_complaint(checker: Checker, engine: str, *options: str) -> Complaint:

@@ -34,8 +34,8 @@ FREEDOMS: Dict[str, Sequence[str]] = {
     "allows_suicide_of_chains": SUICIDES,
     "has_all_freedoms": ("captures", "komi", *SUICIDES),
 }
-# how often an engine is tried that can say the same score three times by chance, and is blamed then
-TRIED, MOST_BLAMED = 12, 3
+# seeds of an engine that is blamed if it says the same score three times by chance
+SEEDS, MOST_BLAMED = 12, 3
 ALLOW_SUICIDE = (
     *("allows_suicide", "allows_suicide_of_chains", "has_all_freedoms"),
     *("suicide_and_no_ko", "captures_are_suicide"),
@@ -68,7 +68,7 @@ BEYOND: Dict[str, tuple[Sequence[str], Optional[str]]] = {
 
 
 def suicide_options(name: str) -> Sequence[str]:
-    """Returns what gtp_check has to be told of an engine that may allow suicide."""
+    """Returns the options of gtp_check for an engine, which may allow suicide."""
     return ("--suicide", "unasked") if name in ALLOW_SUICIDE else ()
 
 
@@ -102,7 +102,7 @@ def test_only_suicide_is_blamed_where_it_is_asked(name: str, checker: Checker) -
 def test_engine_that_estimates_by_chance_is_seldom_blamed(checker: Checker) -> None:
     options = ["--restarts", "0", "--trials", "0", "--only", "komi"]
     blamed = 0
-    for seed in range(TRIED):
+    for seed in range(SEEDS):
         engine = FREE.format("estimates_by_chance_in_whole_points", seed, "simple")
         check = checker.check(engine, "--seed", str(seed), *options)
         assert check.status in (0, 1) and check.errors == ""

@@ -1,4 +1,4 @@
-"""Engines that misbehave as tests/references/controller/faulty.py is told, or that are gone.
+"""Engines that misbehave by tests/references/controller/faulty.py, or that are gone.
 
 What each check has to come to was worked out by hand. An engine is asked `name`, `version`, three
 times `known_command`, `boardsize 5`, which finds the size of scenes, `boardsize 5`, `komi 6.5`,
@@ -163,7 +163,7 @@ ENGINES = {
 SILENT = Hostile("silent", "*/c1-999//on", "<reply>", START, None, "", 1, 1)
 
 
-@pytest.mark.parametrize("engine", ENGINES.values(), ids=lambda it: it.name)
+@pytest.mark.parametrize("engine", ENGINES.values(), ids=ENGINES)
 def test_hostile_engine(engine: Hostile, checker: Checker, tmp_path: Path) -> None:
     check = checker.check(engine.command(tmp_path), *engine.options)
     report = check.report

@@ -23,7 +23,7 @@ from .noticed_bugs import NOT_PASTED, NOTICED, UNNOTICED, WAITING, lessons_of
 from .reports import Complaint
 
 BUGS = all_bugs()
-OF_A_SUBJECT = 8  # bugs that are tried of each subject, at most
+OF_A_SUBJECT = 8  # bugs of each subject, at most
 QUICK_LESSONS = ("start", "komi", "games")
 
 
@@ -124,11 +124,11 @@ def first_pasted(subject: str) -> Type[Bug]:
 @pytest.mark.parametrize("subject", SUBJECTS)
 def test_shorter_conversation(subject: str, checker: Checker, run_engine: RunEngine) -> None:
     bug = first_pasted(subject)
-    lessons = only(*lessons_of(bug.name, subject))
-    check = checker.check(engine_of(bug), "--trials", "12", "--restarts", "0", *lessons)
-    for complaint in check.report.complaints:
-        assert not complaint.left_out
-        check_is_real(run_engine, bug, complaint)
+    options = ["--trials", "12", "--restarts", "0", *rule_of(bug)]
+    check = checker.check(engine_of(bug), *options, *only(*lessons_of(bug.name, subject)))
+    (complaint,) = check.report.complaints
+    assert not complaint.left_out
+    check_is_real(run_engine, bug, complaint)
 
 
 def test_unnoticed_bug(unnoticed: str, lessons: Sequence[str], checker: Checker) -> None:

@@ -61,6 +61,6 @@ RUNS = [
 
 
 @pytest.mark.cc
-@pytest.mark.parametrize("refused", RUNS, ids=lambda it: it.name)
+@pytest.mark.parametrize("refused", RUNS, ids=lambda run: run.name)
 def test_refused_memory(refused: Run, refuser: Refuser, gtp_check: Path) -> None:
     refuser.check(refused)

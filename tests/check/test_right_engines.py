@@ -110,7 +110,7 @@ def check_nothing_is_found(checker: Checker, right: Right) -> None:
     assert sorted(notes_of(check.report)) == sorted(right.notes)
 
 
-@pytest.mark.parametrize("right", ENGINES, ids=lambda it: it.name)
+@pytest.mark.parametrize("right", ENGINES, ids=lambda right: right.name)
 def test_nothing_is_found(right: Right, checker: Checker) -> None:
     check_nothing_is_found(checker, right)
 

@@ -102,10 +102,10 @@ def is_right(right: str, steps: Sequence[str], output: str) -> bool:
     if right == "nothing":
         return output == ""
     replies = replies_of(output)
-    if replies is None or [it.id for it in replies] != [*map(id_of, steps[-1].split("\n"))]:
+    if replies is None or [reply.id for reply in replies] != [*map(id_of, steps[-1].split("\n"))]:
         return False
     *others, last = replies
-    return all(it.mark == "=" for it in others) and is_wanted(right, steps, last)
+    return all(reply.mark == "=" for reply in others) and is_wanted(right, steps, last)
 
 
 def is_wanted(right: str, steps: Sequence[str], reply: Reply) -> bool:
