@@ -7,7 +7,7 @@ import signal
 import sys
 import tempfile
 from pathlib import Path
-from subprocess import DEVNULL, PIPE
+from subprocess import DEVNULL, PIPE, Popen
 from typing import Dict, Iterator, List
 
 import pytest
@@ -17,6 +17,7 @@ from .runner import SCRIPTS, SMALL, Done, Runner, engines, kill
 
 UNREAD = {"stdout": DEVNULL, "stderr": DEVNULL}  # which what is left could hold open
 ONE_AT_A_TIME = ["play", "all", "--jobs", "1"]
+RELAYS = ["between black", "between white"]  # once both are there, no fork has another's name
 
 
 def kill_at_one_moment(processes: List[int]) -> None:
@@ -35,7 +36,8 @@ def test_one_process_is_killed(command: List[str], name: str, runner: Runner) ->
     runner.tournament("plan", "all", *both, "--seeds", "1")
     runner.pass_trials()
     process = runner.start("tournament", *command, **UNREAD)
-    runner.wait_until(lambda: len(runner.named("stubborn")) == 4)
+    runner.wait_for(*RELAYS)
+    runner.wait_until(lambda: len(runner.named("stubborn")) >= 4)
     first = set(runner.named("stubborn"))
     (killed,) = runner.named(name)
     kill(killed)
@@ -92,6 +94,17 @@ def test_run_and_game_are_killed_at_one_moment(
     runner.wait_until(lambda: not (runner.named("twogtp") if direct else runner.processes()))
 
 
+def begin(runner: Runner) -> Popen[str]:
+    """Begins the small tournament, whose first game does not end before there is a file `go`."""
+    waits = runner.script("waits", WAITS)
+    both = engines(one=f"{waits} %s '' 1", two=f"{waits} %s 10 1")
+    runner.tournament("plan", "all", *both, "--seeds", "4", *SMALL)
+    runner.pass_trials()
+    process = runner.start("tournament", *ONE_AT_A_TIME)
+    runner.wait_for(*RELAYS)
+    return process
+
+
 @pytest.mark.parametrize(
     "name, why",
     [
@@ -102,12 +115,7 @@ def test_run_and_game_are_killed_at_one_moment(
 def test_process_of_a_game_costs_that_game_alone(
     name: str, why: str, runner: Runner, small_results: Dict[str, str]
 ) -> None:
-    waits = runner.script("waits", WAITS)
-    both = engines(one=f"{waits} %s '' 1", two=f"{waits} %s 10 1")
-    runner.tournament("plan", "all", *both, "--seeds", "4", *SMALL)
-    runner.pass_trials()
-    process = runner.start("tournament", *ONE_AT_A_TIME)
-    runner.wait_for("game 1_one_two", "twogtp")
+    process = begin(runner)
     (killed,) = runner.named(name)
     kill(killed)
     runner.wait_until(lambda: killed not in runner.named(name))
@@ -127,12 +135,7 @@ def test_process_of_a_game_costs_that_game_alone(
 
 def test_process_of_a_game_that_others_ask_to_end_says_so(runner: Runner) -> None:
     # else nobody would know why the game has no result
-    waits = runner.script("waits", WAITS)
-    both = engines(one=f"{waits} %s '' 1", two=f"{waits} %s 10 1")
-    runner.tournament("plan", "all", *both, "--seeds", "4", *SMALL)
-    runner.pass_trials()
-    process = runner.start("tournament", *ONE_AT_A_TIME)
-    runner.wait_for("game 1_one_two", "twogtp")
+    process = begin(runner)
     (game,) = runner.named("game 1_one_two")
     kill(game, signal.SIGTERM)
     runner.wait_until(lambda: not runner.named("game 1_one_two"))
