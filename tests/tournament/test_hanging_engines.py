@@ -7,6 +7,7 @@ from subprocess import DEVNULL
 from .misbehaving import STUBBORN
 from .runner import Runner, engines
 
+START = 4  # seconds in which a slow machine starts an engine
 MATCH = ["twogtp", "--white", "gtp_engine", "--size", "9", "--restarts", "0", "--black"]
 
 
@@ -18,7 +19,7 @@ def test_timeout_with_k_ends_an_engine_that_ignores_term(runner: Runner) -> None
 
 def test_without_k_it_is_waited_for(runner: Runner) -> None:
     text = "trap 'touch asked' TERM\nwhile :; do sleep 0.1; done"
-    process = runner.start(*MATCH, f"timeout 1 {runner.script('ignores', text)}")
+    process = runner.start(*MATCH, f"timeout {START} {runner.script('ignores', text)}")
     runner.wait_until((runner.folder / "asked").exists)
     assert process.poll() is None
 
@@ -26,7 +27,7 @@ def test_without_k_it_is_waited_for(runner: Runner) -> None:
 def test_timeout_of_twogtp_leaves_an_engine_that_ignores_term(runner: Runner) -> None:
     stubborn = runner.script("stubborn", STUBBORN)
     # which an engine that is left could hold open
-    runner.run("timeout", "1", *MATCH, stubborn, stdout=DEVNULL, stderr=DEVNULL)
+    runner.run("timeout", START, *MATCH, stubborn, stdout=DEVNULL, stderr=DEVNULL)
     assert runner.named("stubborn") != []
 
 
