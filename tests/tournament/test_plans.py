@@ -143,6 +143,92 @@ def test_line_that_is_not_known_is_spelled(runner: Runner) -> None:
     assert runner.tournament("list", "all") == (2, "", f"tournament: {line}")
 
 
+# ---- plans that people write
+
+BY_HAND = f"""\
+folder FOLDER
+# the champion
+engine one {RANDOM} %s
+
+engine two {RANDOM} 10%s
+option --size
+# small, so that it is quick
+option 2
+# at night more
+seeds 1
+limit 20
+# the end"""
+
+
+def write_plan(runner: Runner, text: str) -> str:
+    """Writes a plan whose engines start in the runner's directory, and returns its text."""
+    text = text.replace("FOLDER", str(runner.folder))
+    (runner.folder / "all").mkdir()
+    runner.write("all/plan", text)
+    return text
+
+
+def test_comments_stay_where_they_are(runner: Runner) -> None:
+    text = write_plan(runner, BY_HAND)
+    done = runner.tournament("play", "all")
+    assert (done.status, done.errors, plan_of(runner)) == (0, "", f"{text}\n")
+    assert runner.tournament("play", "all", "--seeds", "2", "--start-limit", "9").status == 0
+    seeds = "# at night more\nseeds"
+    more = text.replace(f"{seeds} 1\n", f"start-limit 9\n{seeds} 2\n")
+    assert plan_of(runner) == f"{more}\n"
+    assert runner.tally("all").output.startswith("4 of 4 games have a result")
+
+
+NO_FOLDER = (
+    "but none that says in which directory the engines start: write folder HERE, for example, as"
+    " its first line"
+)
+
+
+@pytest.mark.parametrize(
+    "old, new, line",
+    [
+        *(
+            pytest.param(
+                "folder FOLDER\n",
+                f"{added}\n",
+                f"all/plan has the line '{added}', {NO_FOLDER}",
+                id=f"{added.split()[0]} without folder",
+            )
+            for added in ("move-limit 2", "start-limit 60", "opening A1 B2", "direct")
+        ),
+        *(
+            pytest.param(
+                "limit 20\n",
+                f"limit 20\ndirect\n{added}\n",
+                f"all/plan has the line '{added}', which the line direct leaves out",
+                id=f"{added.split()[0]} of engines that are started directly",
+            )
+            for added in ("move-limit 2", "start-limit 60")
+        ),
+        *(
+            pytest.param(
+                "limit 20\n",
+                f"limit 20\n{kind} {value}\n{kind} {value}\n",
+                f"all/plan has more than one line with {kind}",
+                id=f"{kind} again",
+            )
+            for kind, value in {
+                **{"folder": "/", "gauntlet": "one", "seeds": "3"},
+                **{"limit": "30", "start-limit": "9", "move-limit": "9"},
+            }.items()
+        ),
+    ],
+)
+def test_no_line_of_a_plan_is_dropped(old: str, new: str, line: str, runner: Runner) -> None:
+    text = write_plan(runner, BY_HAND.replace(old, new))
+    for words in (["play", "all"], ["plan", "all", "--seeds", "3"], ["list", "all"]):
+        report = f"tournament: {line}\n".replace("HERE", str(runner.folder))
+        assert runner.tournament(*words) == (2, "", report)
+    assert runner.tally("all").status == 2
+    assert (plan_of(runner), (runner.folder / "all/games").exists()) == (text, False)
+
+
 @pytest.mark.parametrize(
     "sizes, statuses",
     [pytest.param("57", [0, 2], id="other options"), pytest.param("55", [0, 0], id="the same")],

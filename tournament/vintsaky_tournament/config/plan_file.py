@@ -4,7 +4,9 @@ FOLDER/plan has a line each: `folder FOLDER`, in which engines start, `engine NA
 WORD`, `seeds N`, `limit SECONDS`. For `between` it has `start-limit SECONDS`, `move-limit SECONDS`
 and `opening MOVE ..`, or `direct` where that is left out. With `gauntlet NAME` this engine plays
 each other one, and no others play. A plan without `folder` is one of earlier scripts: its engines
-start in the working directory, and directly.
+start in the working directory, and directly; it has none of the lines for `between`.
+
+A line that begins with # is a comment, which stays above the line that it is above of.
 """
 from __future__ import annotations
 
@@ -18,6 +20,10 @@ from .values import number, seconds
 MOVE = "(?:[A-HJ-Z](?:[1-9]|1[0-9]|2[0-5])|pass)"
 OPENING = re.compile(f"{MOVE}(?: {MOVE})*")
 ELSEWHERE = "take another directory"
+ONCE = ("folder", "gauntlet", "direct", "move-limit", "start-limit", "seeds", "limit")
+CHANGED = ("start-limit", "seeds", "limit")  # of these lines the rest may change
+LIMITS_OF_ANSWERS = ("move-limit", "start-limit")
+FOR_BETWEEN = ("direct", *LIMITS_OF_ANSWERS, "opening")
 
 
 # ---- reading
@@ -61,11 +67,40 @@ def read_text(place: str) -> bytes:
         raise Mistake(f"{place} can't be read: {error.strerror}") from None
 
 
+def is_comment(line: str) -> bool:
+    """Returns whether a line says nothing."""
+    return not line or line.startswith("#")
+
+
+def kind_of(line: str) -> str:
+    """Returns the first word of a line."""
+    return line.partition(" ")[0]
+
+
+def check_lines(lines: list[str], place: str) -> None:
+    """Raises Mistake where a plan can't have one of these lines besides the others, which would
+    have no effect."""
+    kinds = [kind_of(line) for line in lines]
+    for kind in ONCE:
+        if kinds.count(kind) > 1:
+            raise Mistake(f"{place} has more than one line with {kind}")
+    for kind, line in zip(kinds, lines):
+        if kind in FOR_BETWEEN and "folder" not in kinds:
+            raise Mistake(
+                f"{place} has the line '{line}', but none that says in which directory the engines "
+                f"start: write folder {os.getcwd()}, for example, as its first line"
+            )
+        if kind in LIMITS_OF_ANSWERS and "direct" in kinds:
+            raise Mistake(f"{place} has the line '{line}', which the line direct leaves out")
+
+
 def parse(text: bytes, place: str) -> Plan:
     """Returns the plan of a file in this place."""
-    plan, lines = Plan(), os.fsdecode(text).split("\n")
-    for line in lines if lines[-1] else lines[:-1]:
+    plan, all_lines = Plan(), os.fsdecode(text).split("\n")
+    lines = [line for line in all_lines if not is_comment(line)]
+    for line in lines:
         add_line(plan, line, place)
+    check_lines(lines, place)
     if len(plan.engines) < 2 or not plan.seeds or not plan.limit:
         raise Mistake(f"{place} lacks engines, seeds or the limit")
     plan.is_direct = plan.is_direct or plan.is_old()
@@ -102,14 +137,33 @@ def fixed_lines(plan: Plan) -> list[str]:
     return [*engines, *options, *pairing, *lines_of_start(plan)]
 
 
-def text_of(plan: Plan) -> str:
-    """Returns all lines."""
+def lines_of(plan: Plan) -> list[str]:
+    """Returns all lines, without comments."""
     first = [] if plan.is_old() else [f"folder {plan.folder}"]
     limits = [f"start-limit {plan.start_limit}"] if plan.start_limit else []
     openings = [f"opening {moves}" for moves in plan.openings]
     last = [f"seeds {plan.seeds}", f"limit {plan.limit}"]
-    lines = [*first, *fixed_lines(plan), *limits, *openings, *last]
-    return "".join(f"{line}\n" for line in lines)
+    return [*first, *fixed_lines(plan), *limits, *openings, *last]
+
+
+def with_comments(lines: list[str], before: bytes) -> list[str]:
+    """Returns these lines with the comments of a file, each above the line that it was above of,
+    or at the end."""
+    above: dict[str, list[str]] = {}
+    waiting: list[str] = []
+    for line in os.fsdecode(before).removesuffix("\n").split("\n") if before else ():
+        waiting.append(line)
+        if not is_comment(line):
+            above.setdefault(name_of(line), []).extend(waiting[:-1])
+            waiting = []
+    found = [part for line in lines for part in (*above.pop(name_of(line), ()), line)]
+    return [*found, *(line for left in above.values() for line in left), *waiting]
+
+
+def name_of(line: str) -> str:
+    """Returns by what a line is known again in a plan that was changed."""
+    kind = kind_of(line)
+    return kind if kind in CHANGED else line
 
 
 def write_plan(plan: Plan, folder: str, before: bytes | None) -> None:
@@ -117,7 +171,8 @@ def write_plan(plan: Plan, folder: str, before: bytes | None) -> None:
     written under another name, and moved."""
     place = f"{folder}/plan"
     new_place = f"{place}.new.{os.getpid()}"
-    text = os.fsencode(text_of(plan))
+    lines = with_comments(lines_of(plan), before or b"")
+    text = os.fsencode("".join(f"{line}\n" for line in lines))
     if os.path.exists(place):
         with open(place, "rb") as file:
             found = file.read()
