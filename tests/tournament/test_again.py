@@ -213,8 +213,8 @@ def test_process_of_a_game_is_killed(lost: Runner) -> None:
 
 
 def counted(runner: Runner) -> Tuple[str, str, List[str]]:
-    """Returns the tally, the one in which a late side loses, and the table of the games."""
-    late = runner.tally("all", "--late", "loses").output
+    """Returns the tally, the one in which no late side loses, and the table of the games."""
+    late = runner.tally("all", "--late", "half").output
     table = runner.tournament("export", "all", "--csv").output.splitlines()
     # versions, which come behind these columns, may be others after a new trial
     return runner.tally("all").output, late, [",".join(row.split(",")[:11]) for row in table]
@@ -256,7 +256,7 @@ def test_notes_in_the_directory_of_the_lock_are_read(text: str, seconds: str, lo
     lost.write(f"all/games/{GAME}", result(NEW))
     (lost.folder / f"all/running/{GAME}").mkdir()
     lost.write(f"all/running/{GAME}/notes", text)
-    assert row_of(lost) == f"abandoned white,,0,{seconds}"
+    assert row_of(lost) == f"abandoned white,black,0,{seconds}"
 
 
 def is_read(fifo: Path) -> bool:
@@ -285,9 +285,9 @@ def test_notes_are_moved_while_they_are_looked_for(lost: Runner) -> None:
 
 def test_notes_that_cannot_be_read_are_none(lost: Runner) -> None:
     (lost.folder / f"all/notes/{GAME}").unlink()
-    assert row_of(lost) == "abandoned black,,0,,"
+    assert row_of(lost) == "abandoned black,white,0,,"
     (lost.folder / f"all/notes/{GAME}").mkdir()
-    assert row_of(lost) == "abandoned black,,0,,"
+    assert row_of(lost) == "abandoned black,white,0,,"
 
 
 # ---- a process is killed between the moves of files

@@ -122,7 +122,7 @@ MISTAKES = {
     "export all --csv --pgn": NO_FORM,
     "export all --sgf": NO_RECORDS,
     "export all --sgf --late loses": NO_RECORDS,
-    "export all --csv --late wins": "--late needs the word loses after it, and not 'wins'",
+    "export all --csv --late wins": "--late needs half, out or loses after it, and not 'wins'",
 }
 
 SPRT = "--sprt needs two differences in Elo"
@@ -149,7 +149,7 @@ MISTAKES_OF_TALLY = {
     ),
     "three --between three one": ("--between is for a test: write --sprt 0 10 --between three one"),
     "all --no-winner loses": "--no-winner needs half or out after it, and not 'loses'",
-    "all --abandoned lose": "--abandoned needs the word loses after it, and not 'lose'",
+    "all --abandoned lose": "--abandoned needs half, out or loses after it, and not 'lose'",
 }
 
 
@@ -252,7 +252,7 @@ def test_options_that_a_plan_does_not_keep(
 OF_PLAN = ["--engine", "--seeds", "--gauntlet", "--limit", "--move-limit", "--start-limit"]
 OF_PLAN += ["--openings", "--direct"]
 OF_PLAY = [*OF_PLAN, "--jobs", "--again", "--task", "--time-left"]
-OF_LOSSES = ["--abandoned", "--late"]
+OF_LOSSES = ["--abandoned"] * 3 + ["--late"]
 OF_TALLY = [*OF_LOSSES, "--no-winner", "--no-winner", "--sprt", "--between", "--json"]
 OF_GAMES = ["0", "1", "2", "69", "130, 143", "141"]
 FORMS = ["--pgn", "--csv", "--jsonl", "--sgf"]

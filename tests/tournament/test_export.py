@@ -15,7 +15,7 @@ from .written import write_plan, write_result
 
 HEAD = (
     "game,black,white,seed,opening,verdict,winner,moves,black_seconds,white_seconds,"
-    "host,black_version,white_version,twogtp_version"
+    "host,black_version,white_version,twogtp_version,rule"
 )
 
 
@@ -37,7 +37,8 @@ def winners(rows: List[Dict[str, str]]) -> Dict[str, str]:
 
 
 def test_csv(written: Runner) -> None:
-    status, output, errors = written.tournament("export", "all", "--csv")
+    words = ["--csv", "--abandoned", "half"]
+    status, output, errors = written.tournament("export", "all", *words)
     assert (status, errors) == (0, MISSING)
     assert output.splitlines()[0] == HEAD
     rows = table(output)
@@ -58,15 +59,18 @@ def test_csv(written: Runner) -> None:
         "black_version": 'A, "the" 1.2',
         "white_version": "",
         "twogtp_version": "1.0",
+        "rule": "abandoned, late or unfit: half",
     }
     # notes of another result say nothing
     assert (rows[1]["host"], rows[1]["black_seconds"]) == ("", "")
 
 
 def test_losers(written: Runner) -> None:
-    rows = table(written.tournament("export", "all", "--csv", "--abandoned", "loses").output)
-    assert winners(rows) == {name: game.winner for name, game in ABANDONED_LOSES.items()}
-    won = winners(table(written.tournament("export", "all", "--csv", "--late", "loses").output))
+    for words in ([], ["--abandoned", "loses"]):
+        rows = table(written.tournament("export", "all", "--csv", *words).output)
+        assert winners(rows) == {name: game.winner for name, game in ABANDONED_LOSES.items()}
+    words = ["--csv", "--abandoned", "half", "--late", "loses"]
+    won = winners(table(written.tournament("export", "all", *words).output))
     assert (won["4_a_b"], won["4_b_a"]) == ("", "black")
 
 
@@ -95,14 +99,15 @@ def result_of(record: str) -> str:
 
 
 def test_sgf(written: Runner) -> None:
-    words = ["--sgf", "deep/records", "--abandoned", "loses"]
+    words = ["--sgf", "deep/records"]
     assert written.tournament("export", "all", *words) == (0, "", MISSING)
     records = written.files("deep/records")
     results = {name: game.sgf for name, game in ABANDONED_LOSES.items()}
     assert {name: result_of(records[f"{name}.sgf"]) for name in results} == results
     for name, game in GAMES.items():
         assert re.findall(r";([BW]\[\w*\])", records[f"{name}.sgf"]) == game.points
-    head = "FF[4]GM[1]CA[UTF-8]AP[twogtp:1.0]SZ[9]KM[5]PB[a]PW[b]RE[B+5]GN[1_a_b]C[B+5]"
+    head = "FF[4]GM[1]CA[UTF-8]AP[twogtp:1.0]SZ[9]KM[5]PB[a]PW[b]RE[B+5]GN[1_a_b]"
+    head += "GC[abandoned or late: loses; unfit: out]C[B+5]"
     assert records["1_a_b.sgf"] == f"(;{head}\n;B[df];W[ee];B[])\n"
 
 
@@ -122,7 +127,8 @@ def tags_in(output: str) -> List[Dict[str, str]]:
 
 
 def test_pgn(written: Runner) -> None:
-    games = tags_in(written.tournament("export", "all", "--pgn").output)
+    output = written.tournament("export", "all", "--pgn", "--abandoned", "half").output
+    games = tags_in(output)
     assert [tags["Result"] for tags in games] == [game.pgn for game in GAMES.values()]
     assert [tags["Termination"] for tags in games] == [game.termination for game in GAMES.values()]
     assert games[0] == {
@@ -140,6 +146,7 @@ def test_pgn(written: Runner) -> None:
         "WhiteSeconds": "0.25",
         "BlackVersion": 'A, \\"the\\" 1.2',
         "ControllerVersion": "1.0",
+        "Rule": "abandoned, late or unfit: half",
     }
 
 

@@ -155,7 +155,7 @@ def test_with_direct_there_are_none(runner: Runner) -> None:
     assert runner.tournament("play", "all", *both, "--direct", *ONE_GAME).status == 0
     assert runner.files("all/notes") == {}
     said = "which side was late is known only where `between` stands"
-    advice = "leave out --late, or write --abandoned loses"
+    advice = "leave out --late, and --abandoned is for all"
     assert runner.tally("all", "--late", "loses") == (2, "", f"tally: {said}: {advice}\n")
 
 
@@ -283,16 +283,19 @@ def test_late_side_is_abandoned(late: Runner) -> None:
 def test_late_side_in_the_tally(late: Runner) -> None:
     nobody = "Black won 0, White 0; 0 by resignation, 0 by forfeit"
     others = "Black won 1, White 1; 0 by resignation, 0 by forfeit, 2 late"
-    assert tallied(late) == [nobody, "0 abandoned, 2 late", "one: late: 2"]
+    half = ("--abandoned", "half")
+    for words in ("--abandoned half", "--abandoned=loses --late half", "--abandoned out"):
+        said = [nobody, "0 abandoned, 2 late", "one: late: 2"]
+        assert tallied(late, *words.split()) == said
     assert "restart" not in late.tally("all").output
-    for words in ("--late loses", "--abandoned=loses", "--late=loses --abandoned loses"):
+    for words in ("", "--abandoned loses", "--abandoned=half --late=loses"):
         assert tallied(late, *words.split()) == [others, "0 abandoned", "one: late: 2"]
     for game, notes in late.files("all/notes").items():
         late.write(f"all/notes/{game}", notes.replace("result: abandoned", "result: other"))
     # those are of another result, and say nothing
-    assert tallied(late)[:3] == [nobody, "2 abandoned", "one: abandoned: 2"]
+    assert tallied(late, *half)[:3] == [nobody, "2 abandoned", "one: abandoned: 2"]
     unknown = "abandoned, and perhaps late, since there are no notes: 2"
-    assert unknown in late.tally("all", "--late", "loses").output.splitlines()
+    assert unknown in late.tally("all", *half, "--late", "loses").output.splitlines()
 
 
 def test_engine_that_answers_nothing_in_time_was_not_started(runner: Runner) -> None:

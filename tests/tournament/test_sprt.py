@@ -171,6 +171,27 @@ def test_line_and_json(runner: Runner) -> None:
     }
 
 
+CRASHED = Pair("abandoned white", "abandoned black")  # b, in both games
+REFUSED = Pair("unfit white", "B+R")
+
+
+@pytest.mark.parametrize(
+    "words, counts",
+    [
+        pytest.param([], [5, 0, 15, 0, 30], id="b loses"),
+        pytest.param(["--abandoned", "loses"], [5, 0, 15, 0, 30], id="b loses as asked"),
+        pytest.param(["--abandoned", "out"], [5, 0, 15, 0, 0], id="out"),
+        # 1/2 of a pair that a refused and b won, and of the crashes a half for each
+        pytest.param(["--abandoned", "half"], [5, 4, 45, 0, 0], id="half"),
+    ],
+)
+def test_pairs_with_sides_that_failed(words: List[str], counts: List[int], runner: Runner) -> None:
+    pairs = [CRASHED if pair is WON else pair for pair in SOME]
+    write_pairs(runner.folder / "all", [*pairs, *[REFUSED] * 4])
+    found = json.loads(runner.tally("all", "--sprt", "0", "100", "--json", *words).output)
+    assert found["sprt"]["pairs"] == counts
+
+
 # ---- the engines that are tested
 
 

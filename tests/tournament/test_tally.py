@@ -33,13 +33,15 @@ EACH_VERDICT = {
 # 1. Seed 3: 1 + 1/2. Seeds 4 and 5: 1 + 1. Seed 6: 1/2 + 1/2, and so seed 7. The others aren't
 # whole. So the counts of 0, 1/2, 1, 3/2 and 2 are 1 0 2 2 2: 9 of 14 points, 64.3 %.
 #
+# So it is with --abandoned half, which counts as tally did before it had another default.
+#
 # The interval: with half a pair more at both ends there are 8, 1.5 0 2 2 2.5. Of each the share of
 # 2 is 0, 1/4, 1/2, 3/4 or 1, so the mean is (2/2 + 2*3/4 + 2.5) / 8 = 5/8, the mean of the squares
 # (2/4 + 2*9/16 + 2.5) / 8 = 33/64, and the variance 33/64 - 25/64 = 1/8. The half is 1.95996 *
 # sqrt(1/8 / 7) = 0.26191: 0.36309 to 0.88691. In Elo, 400 * log10(s / (1 - s)), 9/14 is 102.1, and
 # these are -97.6 and 357.8.
 EACH_VERDICT_COUNTED = """\
-14 of 20 games have a result, 8 have a winner
+14 of 20 games have a result, 8 have a winner; abandoned, late or unfit: half
 
 engine  points    won  percent   with Black     with White
 b          6.5      6     75.0   3 of 4         3 of 4
@@ -64,6 +66,27 @@ no result: 6
   8_a_b: not over in 600 seconds
   9_b_a: its file is damaged
 """  # noqa: E501 since it is what a program writes
+# Else a loses both games of seed 7, and seed 6 is out: b won 8 of 10, and its pairs are 0, 3/2,
+# 3/2, 2, 2 and 2, which are 1 0 0 2 3, 9 of 12. By the same way the mean is 5/7, the mean of the
+# squares (2 * 9/16 + 3.5) / 7 = 37/56, the variance 37/56 - 25/49 = 59/392, and the half 1.95996 *
+# sqrt(59/392 / 6) = 0.31042: 0.40387 to 1. In Elo 3/4 is 190.8, and 0.40387 is -67.6.
+BY_DEFAULT = {
+    "14 of 20 games have a result, 8 have": "14 of 20 games have a result, 10 have",
+    "abandoned, late or unfit: half": "abandoned or late: loses; unfit: out",
+    "b          6.5      6     75.0   3 of 4         3 of 4": (
+        "b          8.5      8     80.0   4 of 5         4 of 5"
+    ),
+    "a          2.5      2     25.0   1 of 4         1 of 4": (
+        "a          2.5      2     20.0   1 of 5         1 of 5"
+    ),
+    "6-2          6      1    0    2    2    2   64.3  36.3 to 88.7   +102  -98 to +358": (
+        "8-2          4      1    0    0    2    3   75.0  40.4 to 100.0  +191  -68 to +inf"
+    ),
+    "Black won 4, White 4; 2 by resignation, 4 by forfeit": (
+        "Black won 5, White 5; 2 by resignation, 4 by forfeit, 2 abandoned"
+    ),
+    "2 unfit, 2 abandoned\n": "2 unfit, 0 abandoned\nout, and so in no pair: 2 unfit\n",
+}
 
 
 def write_each_verdict(runner: Runner) -> None:
@@ -79,27 +102,42 @@ def pairs_in(output: str) -> List[str]:
     return re.findall("^.+ - .+$", output, re.MULTILINE)
 
 
+def test_tally_with_half_a_point_for_abandoned_sides_is_the_earlier_one(runner: Runner) -> None:
+    write_each_verdict(runner)
+    assert runner.tally("all", "--abandoned", "half") == (1, EACH_VERDICT_COUNTED, "")
+
+
 def test_each_verdict(runner: Runner) -> None:
     write_each_verdict(runner)
-    assert runner.tally("all") == (1, EACH_VERDICT_COUNTED, "")
+    wanted = EACH_VERDICT_COUNTED
+    for before, now in BY_DEFAULT.items():
+        assert wanted.count(before) == 1
+        wanted = wanted.replace(before, now)
+    assert runner.tally("all") == (1, wanted, "")
+    assert runner.tally("all", "--abandoned", "loses") == (1, wanted, "")
 
 
-# Where a loses that is abandoned, seed 7 is 1 + 1, so the pairs are 1 0 1 2 3, 10 of 14. Where
-# games don't count that nobody won, except drawn ones, the seeds 3, 6 and 7 are left out: 1 0 0 1
-# 2, 5.5 of 8.
+# With half a point for sides that failed there are 1 0 2 2 2. Where games don't count that nobody
+# won, except drawn ones, the seeds 3, 6 and 7 are left out: 1 0 0 1 2, 5.5 of 8; and where a loses
+# that is abandoned, only 3 and 6: 1 0 0 1 3, 7.5 of 10. Where only failed sides are out, the seeds
+# 6 and 7: 1 0 0 2 2, 7 of 10.
 @pytest.mark.parametrize(
     "words, line",
     [
         (
-            "--abandoned loses",
-            "8-2          4      1    0    1    2    3   71.4  41.4 to 96.1   +159  -61 to +559",
-        ),
-        (
-            "--no-winner out",
+            "--abandoned half --no-winner out",
             "6-2          6      1    0    0    1    2   68.8  22.3 to 100.0  +137  -217 to +inf",
         ),
         (
-            "--no-winner half",
+            "--no-winner out",
+            "8-2          4      1    0    0    1    3   75.0  34.1 to 100.0  +191  -114 to +inf",
+        ),
+        (
+            "--abandoned out",
+            "6-2          6      1    0    0    2    2   70.0  31.6 to 100.0  +147  -134 to +inf",
+        ),
+        (
+            "--abandoned half --no-winner half",
             "6-2          6      1    0    2    2    2   64.3  36.3 to 88.7   +102  -98 to +358",
         ),
     ],
@@ -114,6 +152,7 @@ JSON = {
     "games": 20,
     "results": 14,
     "winners": 8,
+    "rule": {"abandoned": "half", "late": "half", "unfit": "half"},
     "black_won": 4,
     "white_won": 4,
     "damaged": 1,
@@ -138,7 +177,7 @@ JSON_OF_B = {
 
 def test_json(runner: Runner) -> None:
     write_each_verdict(runner)
-    done = runner.tally("all", "--json")
+    done = runner.tally("all", "--json", "--abandoned", "half")
     assert (done.status, done.output.count("\n"), done.errors) == (1, 1, "")
     found = json.loads(done.output)
     assert {key: found[key] for key in JSON} == JSON
@@ -185,7 +224,7 @@ THREE_ENGINES = {
     "2_c_b": "0",
 }
 THREE_ENGINES_COUNTED = """\
-12 of 12 games have a result, 9 have a winner
+12 of 12 games have a result, 9 have a winner; abandoned or late: loses; unfit: out
 
 engine  points    won  percent   with Black     with White
 a          6.5      6     85.7   3 of 3         3 of 4

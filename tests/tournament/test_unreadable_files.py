@@ -88,7 +88,7 @@ def test_notes_and_logs(runner: Runner) -> None:
         for name in ("1_one_two", "1_two_one"):
             (runner.folder / "all" / kind / name).unlink()
             (runner.folder / "all" / kind / name).mkdir()
-    status, output, errors = runner.tally("all", "--late", "loses")
+    status, output, errors = runner.tally("all", "--late", "half")
     assert (status, errors) == (1, "")
     assert "abandoned, and perhaps late, since there are no notes: 1" in output.splitlines()
     done = runner.tournament("export", "all", "--csv")

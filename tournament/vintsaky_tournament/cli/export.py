@@ -8,7 +8,7 @@ from .. import output
 from ..config.plan_file import read_plan
 from ..output import Mistake
 from ..stats.records import Records
-from .losses import losing_ways
+from .losses import rules_of
 
 if TYPE_CHECKING:
     from ..config.arguments import Words
@@ -23,7 +23,7 @@ def do_export(words: Words) -> int:
         raise Mistake("write one of --pgn, --csv, --jsonl and --sgf FOLDER")
     (folder,) = words.places
     plan = read_plan(folder)
-    records = Records(plan, folder, losing_ways(words, plan))
+    records = Records(plan, folder, rules_of(words, plan))
     sgf_folder = words.last("--sgf", lambda _, place: place)
     if sgf_folder is not None:
         from ..report.sgf import write_records

@@ -1,27 +1,28 @@
-"""The options that say in which ways a side loses, of the tally and of exports."""
+"""The options that say what a game counts in which a side failed, of the tally and of exports."""
 from __future__ import annotations
 
 from ..config.arguments import Words
-from ..model import Plan, Way
+from ..model import Plan
 from ..output import Mistake
+from ..stats.endings import Rule, Rules
 
 
-def losing_ways(words: Words, plan: Plan) -> tuple[Way, ...]:
-    """Returns the ways in which a side loses, by the options."""
-    for name in ("--abandoned", "--late"):
-        words.last(name, check_loses)
-    if words.has("--late") and plan.is_direct:
+def rules_of(words: Words, plan: Plan) -> Rules:
+    """Returns the rules that the options ask for. A late side has that of an abandoned one, unless
+    it has its own."""
+    abandoned = words.last("--abandoned", rule_of) or Rule.LOSES
+    late = words.last("--late", rule_of)
+    if late and plan.is_direct:
         raise Mistake(
-            "which side was late is known only where `between` stands: leave out --late, or write "
-            "--abandoned loses"
+            "which side was late is known only where `between` stands: leave out --late, and "
+            "--abandoned is for all"
         )
-    if words.has("--abandoned"):
-        return Way.ABANDONED, Way.LATE
-    return (Way.LATE,) if words.has("--late") else ()
+    return Rules(abandoned, late or abandoned)
 
 
-def check_loses(name: str, value: str) -> str:
-    """Returns the only value that such an option has."""
-    if value != "loses":
-        raise Mistake(f"{name} needs the word loses after it, and not '{value}'")
-    return value
+def rule_of(name: str, value: str) -> Rule:
+    """Returns the rule that an option names."""
+    try:
+        return Rule(value)
+    except ValueError:
+        raise Mistake(f"{name} needs half, out or loses after it, and not '{value}'") from None

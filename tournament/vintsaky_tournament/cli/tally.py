@@ -12,7 +12,7 @@ from ..model import Plan
 from ..output import Mistake
 from ..stats.sprt import MOST, Asked, Test
 from ..stats.summary import Counts, Summary
-from .losses import losing_ways
+from .losses import rules_of
 
 STATUSES = {1: 0, 0: 3, None: 4}  # of a test, by the difference in Elo that is accepted
 
@@ -77,7 +77,7 @@ def main(arguments: Sequence[str]) -> int:
     (folder,) = words.places
     plan = read_plan(folder)
     asked, leave_out = asked_of(words, plan), words.last("--no-winner", is_out)
-    counts = Counts(plan, folder, losing_ways(words, plan), bool(leave_out))
+    counts = Counts(plan, folder, rules_of(words, plan), bool(leave_out))
     test = Test(counts.pairs, asked) if asked else None
     if words.has("--json"):
         from ..report.as_json import json_of

@@ -38,7 +38,7 @@ OF_PLAN: Options = {
     **OF_PLAY,
 }
 OF_LOSSES: Options = {
-    name: Option("the word loses", f"{name} loses") for name in ("--abandoned", "--late")
+    name: Option("half, out or loses", f"{name} half") for name in ("--abandoned", "--late")
 }
 OF_TALLY: Options = {
     **OF_LOSSES,

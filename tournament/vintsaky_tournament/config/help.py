@@ -67,9 +67,16 @@ status: 0  each game has a result, and no side was unfit or abandoned. With
         141  nobody reads what it prints
 """
 LOSSES = """\
-  --abandoned loses  count an abandoned side as the loser
-  --late loses       count a side that was abandoned because it was late as the
-                     loser
+  --abandoned loses  an abandoned side loses: it crashed, broke the protocol or
+                     was late; this is the default. A game with an unfit side is
+                     out, that is in no pair: it refused the size, the komi or
+                     the handicap
+  --abandoned out    a game with an abandoned or unfit side is out
+  --abandoned half   such a game has no winner, and in a pair it is half a point
+                     for each side, as with earlier versions
+  --late half|out|loses
+                     the same for a side that was abandoned because it was late
+                     [as --abandoned says]
 """
 HELP: dict[str | None, str] = {
     None: "\n".join([HEAD, PLAN + PLAY + OPTION, FILES, STATUS]),
@@ -145,7 +152,7 @@ another process is playing it, this command plays nothing and ends with 0.
     ),
     "export": """\
 usage: tournament export FOLDER --pgn | --csv | --jsonl | --sgf RECORDS
-           [--abandoned loses] [--late loses]
+           [--abandoned half|out|loses] [--late half|out|loses]
 
 Writes the results of FOLDER in the plan's order, for other programs.
 
@@ -171,8 +178,9 @@ status: 0  the games that have a result are written
         141  nobody reads what it prints
 """,
     "tally": """\
-usage: tally FOLDER [--abandoned loses] [--late loses] [--no-winner half|out]
-           [--sprt ELO0 ELO1 [--between NAME NAME]] [--json]
+usage: tally FOLDER [--abandoned half|out|loses] [--late half|out|loses]
+           [--no-winner half|out] [--sprt ELO0 ELO1 [--between NAME NAME]]
+           [--json]
 
 Counts the results of a directory that tournament made.
 
@@ -180,8 +188,8 @@ Counts the results of a directory that tournament made.
     + LOSSES
     + """\
   --no-winner half   in a pair (the two games of two engines with one seed),
-                     count a game that nobody won as half a point; this is the
-                     default
+                     count a game that nobody won and that isn't out as half a
+                     point; this is the default
   --no-winner out    leave out pairs with a game that nobody won, unless that
                      game is drawn
   --sprt ELO0 ELO1   test whether the plan's first engine is stronger than its

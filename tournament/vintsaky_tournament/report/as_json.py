@@ -25,6 +25,7 @@ def json_of(summary: Summary, test: Test | None = None) -> str:
         "games": counts.games.count,
         "results": counts.have,
         "winners": counts.with_winner(),
+        "rule": {way.value: rule.value for way, rule in counts.rules.by_way().items()},
         "black_won": counts.won_by(Side.BLACK),
         "white_won": counts.won_by(Side.WHITE),
         "ended": dict(sorted(counts.descriptions().items())),

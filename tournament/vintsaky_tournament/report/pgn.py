@@ -38,6 +38,7 @@ def as_pgn(records: Iterable[Record], event: str) -> Iterator[str]:
             "BlackVersion": record.black_version,
             "WhiteVersion": record.white_version,
             "ControllerVersion": record.twogtp_version,
+            "Rule": record.rule,
         }
         lines = [f'[{name} "{quoted(value)}"]' for name, value in tags.items() if value is not None]
         yield "\n".join([*lines, "", points, ""])

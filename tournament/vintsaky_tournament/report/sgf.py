@@ -43,6 +43,7 @@ class Board:
             "PW": record.white,
             "RE": result(record.verdict, record.ending),
             "GN": record.game,
+            "GC": record.rule,
             "C": record.verdict,
         }
         root = "".join(

@@ -7,6 +7,7 @@ from typing import Iterator, Sequence
 
 from ..model import Side, Way
 from ..stats import scores
+from ..stats.endings import Rule
 from ..stats.pairs import Found
 from ..stats.scores import Cluster
 from ..stats.sprt import Test
@@ -27,7 +28,8 @@ class Table:
         """Yields all lines. Those of the games without a result are made one after the other."""
         have, all_games = self.counts.have, self.counts.games.count
         with_winner = self.counts.with_winner()
-        yield f"{have} of {all_games} games have a result, {with_winner} have a winner"
+        rules = self.counts.rules.text()
+        yield f"{have} of {all_games} games have a result, {with_winner} have a winner; {rules}"
         yield ""
         yield from self.of_engines()
         yield ""
@@ -87,7 +89,11 @@ class Table:
         failed = f"{counts.ended(Way.UNFIT)} unfit, {left[Way.ABANDONED]} abandoned"
         late = f", {left[Way.LATE]} late" if left[Way.LATE] else ""
         yield f"no winner: {drawn}, {failed}{late}"
-        if counts.unknown and list(counts.losing) == [Way.LATE]:
+        out = {way: counts.ended(way) for way in counts.rules.ways(Rule.OUT)}
+        if any(out.values()):
+            said = ", ".join(f"{count} {way.value}" for way, count in out.items() if count)
+            yield f"out, and so in no pair: {said}"
+        if counts.unknown and counts.rules.late is not counts.rules.abandoned:
             yield f"abandoned, and perhaps late, since there are no notes: {counts.unknown}"
         if counts.restarted:
             yield f"games with a restart: {counts.restarted}"

@@ -1,7 +1,8 @@
 """How games ended, for the tally and for exports: who won, and who is to blame where nobody did."""
 from __future__ import annotations
 
-from typing import Collection, NamedTuple
+import enum
+from typing import NamedTuple
 
 from ..model import COLOURS, SIDES, Ending, Plan, Result, Way
 from ..store import notes
@@ -24,6 +25,39 @@ def ending_of(verdict: str) -> Ending:
     return Ending(winner, None, Way.RESIGNED if points == "R" else Way.WON)
 
 
+class Rule(str, enum.Enum):
+    """What a game counts in which a side failed."""
+
+    LOSES = "loses"  # that side
+    HALF = "half"  # a point for each side of a pair
+    OUT = "out"  # nothing: its pair is left out
+
+
+class Rules(NamedTuple):
+    """What the games count in which a side was abandoned, or was late."""
+
+    abandoned: Rule = Rule.LOSES
+    late: Rule = Rule.LOSES
+
+    def by_way(self) -> dict[Way, Rule]:
+        """Returns the rule of each way. An unfit side has refused the setup, and so never loses."""
+        unfit = Rule.HALF if self.abandoned is Rule.HALF else Rule.OUT
+        return {Way.ABANDONED: self.abandoned, Way.LATE: self.late, Way.UNFIT: unfit}
+
+    def ways(self, wanted: Rule) -> list[Way]:
+        """Returns the ways that have this rule."""
+        return [way for way, rule in self.by_way().items() if rule is wanted]
+
+    def text(self) -> str:
+        """Returns the rule of each way, in a few words."""
+        parts = []
+        for rule in dict.fromkeys(self.by_way().values()):
+            *others, last = [way.value for way in self.ways(rule)]
+            names = f"{', '.join(others)} or {last}" if others else last
+            parts.append(f"{names}: {rule.value}")
+        return "; ".join(parts)
+
+
 class Ended(NamedTuple):
     """How a game ended, and the restarts of both sides, without those that started no engine."""
 
@@ -32,11 +66,11 @@ class Ended(NamedTuple):
 
 
 class Endings:
-    """How the games of a folder ended. The ways are given in which a side loses, where else nobody
-    would win."""
+    """How the games of a folder ended, by the rules for sides that failed."""
 
-    def __init__(self, plan: Plan, folder: str, losing: Collection[Way] = ()) -> None:
-        self.games, self.folder, self.losing = plan.games(), folder, losing
+    def __init__(self, plan: Plan, folder: str, rules: Rules) -> None:
+        self.games, self.folder = plan.games(), folder
+        self.losing = rules.ways(Rule.LOSES)
         self.is_direct = plan.is_direct
         self.known: dict[str, Ending] = {}  # of each verdict
         self.unknown = 0  # games in which a side was abandoned, and may have been late

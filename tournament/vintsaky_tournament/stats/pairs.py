@@ -11,7 +11,7 @@ from __future__ import annotations
 import enum
 from array import array
 from collections import Counter, defaultdict
-from typing import Iterable, Mapping, NamedTuple, Sequence
+from typing import Collection, Iterable, Mapping, NamedTuple, Sequence
 
 from ..model import Ending, Plan, Result, Side, Way
 from . import scores
@@ -49,11 +49,11 @@ class Pairing(NamedTuple):
 
 
 class Pairs:
-    """What the games were for Black, and what moves they have, by their numbers."""
+    """What the games were for Black, and what moves they have, by their numbers. The ways are given
+    in which a game that nobody won isn't counted."""
 
-    def __init__(self, plan: Plan, is_out: bool = False) -> None:
-        self.games, self.openings = plan.games(), plan.openings
-        self.is_out = is_out  # whether games that nobody won aren't counted
+    def __init__(self, plan: Plan, out: Collection[Way] = ()) -> None:
+        self.games, self.openings, self.out = plan.games(), plan.openings, out
         self.scores = bytearray(self.games.count)
         # a number of the opening and the moves; 0 for few moves
         self.moves = array("q", [0]) * self.games.count
@@ -63,8 +63,7 @@ class Pairs:
         if ending.winner is not None:
             self.scores[game] = Score.LOST if ending.winner is Side.WHITE else Score.WON
         else:
-            is_out = self.is_out and ending.way is not Way.DRAWN
-            self.scores[game] = Score.OUT if is_out else Score.HALF
+            self.scores[game] = Score.OUT if ending.way in self.out else Score.HALF
         self.moves[game] = self.number_of(game, result)
 
     def number_of(self, game: int, result: Result) -> int:

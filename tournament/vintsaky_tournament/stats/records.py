@@ -4,10 +4,10 @@ from __future__ import annotations
 from typing import Iterator, NamedTuple, Sequence
 
 from ..cluster import Share
-from ..model import Ending, Plan, Result, Way
+from ..model import Ending, Plan, Result
 from ..store import notes, results
 from ..store.versions import versions_of
-from .endings import Endings
+from .endings import Endings, Rules
 
 ALL = Share(1, 1)
 LONGEST_HOST = 64  # characters
@@ -30,6 +30,7 @@ class Record(NamedTuple):
     black_version: str | None
     white_version: str | None
     twogtp_version: str | None
+    rule: str  # what a game counts in which a side failed
     ending: Ending
     result: Result
 
@@ -53,9 +54,9 @@ class Noted(NamedTuple):
 class Records:
     """The games of a folder that have a result, in the plan's order."""
 
-    def __init__(self, plan: Plan, folder: str, losing: Sequence[Way]) -> None:
+    def __init__(self, plan: Plan, folder: str, rules: Rules) -> None:
         self.plan, self.folder, self.games = plan, folder, plan.games()
-        self.endings = Endings(plan, folder, losing)
+        self.endings, self.rule = Endings(plan, folder, rules), rules.text()
         self.versions: dict[str | None, dict[str, str | None]] = {None: {}}  # on each machine
         self.without = self.games.count  # those that have no result
 
@@ -88,6 +89,7 @@ class Records:
             black_version=versions.get(f"engine {black}"),
             white_version=versions.get(f"engine {white}"),
             twogtp_version=versions.get("twogtp"),
+            rule=self.rule,
             ending=ending,
             result=result,
         )

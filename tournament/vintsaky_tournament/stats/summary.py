@@ -4,11 +4,11 @@ from __future__ import annotations
 import contextlib
 import os
 from collections import Counter
-from typing import Collection, Iterator, NamedTuple, Sequence
+from typing import Iterator, NamedTuple, Sequence
 
 from ..model import FORFEITS, SIDES, Ending, Plan, Side, State, Way
 from ..store import results
-from .endings import Endings
+from .endings import Endings, Rule, Rules
 from .pairs import Found, Pairs
 
 OTHERS_TO_LOOK_INTO = (Way.UNFIT, Way.ABANDONED, Way.LATE, Way.TIME)
@@ -16,20 +16,21 @@ PREFIX = "tournament: "  # of the line of a log that says why a game has no resu
 
 
 class Counts:
-    """What was counted of the results in a folder. The ways are given in which a side loses, where
-    else nobody would win, and whether games that nobody won are left out of the pairs."""
+    """What was counted of the results in a folder, by the rules for sides that failed. Games that
+    nobody won may be left out of the pairs, unless they are drawn."""
 
     def __init__(
-        self, plan: Plan, folder: str, losing: Collection[Way] = (), is_out: bool = False
+        self, plan: Plan, folder: str, rules: Rules = Rules(), is_out: bool = False
     ) -> None:
-        self.plan, self.games, self.folder, self.losing = plan, plan.games(), folder, losing
+        self.plan, self.games, self.folder, self.rules = plan, plan.games(), folder, rules
+        self.out = set(Way) - {Way.DRAWN} if is_out else set(rules.ways(Rule.OUT))
         self.states = bytearray(self.games.count)
         # of two engines with these colours: how often a game ended so
         self.endings: list[dict[Ending, int]] = [{} for _ in self.games.sides]
         self.restarts: Counter[str] = Counter()  # of each engine
         self.restarted = 0  # games
-        self.pairs = Pairs(plan, is_out)
-        endings = Endings(plan, folder, losing)
+        self.pairs = Pairs(plan, self.out)
+        endings = Endings(plan, folder, rules)
         for game, result in results.of_all(plan, folder):
             self.states[game] = State.WHOLE if result else State.DAMAGED
             if result:
