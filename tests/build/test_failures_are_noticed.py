@@ -15,6 +15,8 @@ import pytest
 from tests.shared.processes import TOP, run
 
 PASSING = "def test_one(): pass\n"
+FAILING = PASSING + "def test_two(): assert 1 == 2\n"
+FAILED = "FAILED tests/test_one.py::test_two - assert 1 == 2"
 NOTHING = "#!/bin/sh\n"
 
 
@@ -38,6 +40,7 @@ def outcome_of(folder: Path, files: Dict[str, str], *words: str) -> Outcome:
         "test": script,
         "build": NOTHING,
         "packaging/built": NOTHING,
+        "nproc": saying("1"),
         "rt": saying("1 passed, 0 failed"),
         "crates/low/must-fail/wrong.edit": "",
         "tests/test_one.py": PASSING,
@@ -67,11 +70,12 @@ class Run:
 ENDED = "with 0 passed and none failed"
 RUNS = [
     Run("all pass", {}, "1 passed, 0 failed"),
+    Run("a test fails", {"tests/test_one.py": FAILING}, "1 passed, 1 failed", [FAILED]),
     Run(
-        "a test fails",
-        {"tests/test_one.py": PASSING + "def test_two(): assert 1 == 2\n"},
+        "a test fails in one of two processes",
+        {"nproc": saying("2"), "tests/test_one.py": FAILING},
         "1 passed, 1 failed",
-        ["FAILED tests/test_one.py::test_two - assert 1 == 2"],
+        [FAILED],
     ),
     Run(
         "a fixture fails",
