@@ -17,7 +17,7 @@ NAMES_LOST_PAGES = "tests/build/test_release_pages.py"
 # The words that a page may have. A longer page loses a section; a limit rises in a commit of its
 # own, which names the task that failed without it.
 LIMITS = {
-    "CHANGELOG.md": 500,
+    "CHANGELOG.md": 650,
     "README.md": 970,
     "bench/README.md": 600,
     "cargo/README.md": 450,
