@@ -197,17 +197,34 @@ def test_engine_may_end_by_itself_where_twogtp_ends(runner: Runner) -> None:
     assert between.notes() == ["0 black started S", "1 black waited S: 2 genmove b"]
 
 
-def test_it_is_noted_who_was_waited_for_where_all_are_asked_to_end(
-    runner: Runner, game: Pipe
-) -> None:
-    twogtp = runner.start("sh", "-c", "echo 1 name; exec sleep 1000", stdout=game.writer)
-    game.writer.close()
-    # the engine ends before twogtp does, which gets the same signal
-    engine = f"read x; (kill -TERM $$; kill -TERM {twogtp.pid}) > /dev/null & wait"
-    between = Between(runner, "sh", "-c", engine)
-    process = runner.start(*BETWEEN, stdin=game.reader)
+class Stop(NamedTuple):
+    """An engine that ended by a signal, and then twogtp, after so many seconds at most."""
+
+    between: Between
+    seconds: float
+
+
+def stop(runner: Runner) -> Stop:
+    """Ends an engine by TERM, and a moment later what is in place of twogtp."""
+    reader, writer = os.pipe()
+    with open(reader) as stdin, open(writer, "w") as stdout:
+        twogtp = runner.start("sh", "-c", "echo 1 name; exec sleep 1000", stdout=stdout)
+        end = f"kill -TERM $$; sleep 0.1; kill -TERM {twogtp.pid}; date +%s.%N >> times"
+        engine = f"read x; date +%s.%N > times; ({end}) > /dev/null & wait"
+        between = Between(runner, "sh", "-c", engine)
+        process = runner.start(*BETWEEN, stdin=stdin)
     assert runner.finish(process).status == -signal.SIGTERM
-    assert between.notes() == ["0 black waited S: 1 name"]
+    runner.wait_until(lambda: (runner.folder / "times").read_text().count("\n") == 2)
+    first, second = (runner.folder / "times").read_text().split()
+    return Stop(between, float(second) - float(first))
+
+
+def test_it_is_noted_who_was_waited_for_where_a_game_is_stopped(runner: Runner) -> None:
+    for _ in range(50):
+        stopped = stop(runner)
+        if stopped.seconds < 0.4:  # on a slow machine twogtp may end too late
+            break
+    assert stopped.between.notes() == ["0 black waited S: 1 name"]
 
 
 # ---- what keeps it from its work
