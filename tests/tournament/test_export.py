@@ -66,11 +66,11 @@ def test_csv(written: Runner) -> None:
 
 
 def test_losers(written: Runner) -> None:
-    for words in ([], ["--abandoned", "loses"]):
-        rows = table(written.tournament("export", "all", "--csv", *words).output)
+    for words in ("--csv", "--csv --abandoned loses"):
+        rows = table(written.tournament("export", "all", *words.split()).output)
         assert winners(rows) == {name: game.winner for name, game in ABANDONED_LOSES.items()}
-    words = ["--csv", "--abandoned", "half", "--late", "loses"]
-    won = winners(table(written.tournament("export", "all", *words).output))
+    words = "--csv --abandoned half --late loses"
+    won = winners(table(written.tournament("export", "all", *words.split()).output))
     assert (won["4_a_b"], won["4_b_a"]) == ("", "black")
 
 
