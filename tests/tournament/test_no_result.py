@@ -45,6 +45,15 @@ def test_twogtp_that_cannot_be_started_any_more(runner: Runner) -> None:
     assert list((runner.folder / "all/running").iterdir()) == []
 
 
+def test_long_line_is_quoted_in_part(runner: Runner) -> None:
+    place = runner.script("twogtp", STAND_IN.format(":") + "printf '%060000d' 0 >&2; exit 3")
+    runner.environment["TWOGTP"] = str(place)
+    runner.tournament("plan", "all", *TWO, *TINY)
+    runner.pass_trials()
+    done = runner.tournament("game", "all", "1_one_two")
+    assert done[::2] == (1, f"tournament: 1_one_two: no result: {197 * '0'} ..\n")
+
+
 def test_directory_of_notes_is_removed_during_a_run(runner: Runner) -> None:
     runner.script("waits", "until [ -e go ]; do sleep 0.1; done; exec gtp_engine")
     runner.tournament("plan", "all", *engines(one="./waits", two="gtp_engine"), *TINY)

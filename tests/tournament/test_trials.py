@@ -4,6 +4,7 @@ from __future__ import annotations
 import os
 import re
 import sys
+import time
 from typing import NamedTuple, Optional
 
 import pytest
@@ -110,6 +111,21 @@ NOT_STARTED = {
         "echo one >&2; echo no library >&2; exit 1",
         "it ended at 'boardsize 5': exit status 1;"
         " the last line of all/tried/HOST/bad.log is: no library",
+    ),
+    "says why above its usage": Bad(
+        "printf 'Error: one\\nerror: no weights\\nusage: engine\\n\\n' >&2; exit 1",
+        "it ended at 'boardsize 5': exit status 1;"
+        " a line of all/tried/HOST/bad.log is: error: no weights",
+    ),
+    "writes a long line": Bad(
+        "printf '%060000d' 0 >&2; exit 1",
+        "it ended at 'boardsize 5': exit status 1;"
+        f" the last line of all/tried/HOST/bad.log is: {197 * '0'} ..",
+    ),
+    "writes a long line of wide characters": Bad(
+        "printf '\\xc3\\xa9%.0s' {1..300} >&2; exit 1",
+        "it ended at 'boardsize 5': exit status 1;"
+        f" the last line of all/tried/HOST/bad.log is: {98 * chr(0xE9)} ..",
     ),
 }
 
@@ -237,6 +253,18 @@ def test_processes_that_begin_at_once_try_an_engine_once(runner: Runner) -> None
     runner.tournament("plan", "all", *words)
     done = runner.shell("tournament list all | xargs -n 1 -P 6 tournament game all")
     assert (done[::2], len(runner.games()), started(runner)) == ((0, ""), 6, 1 + 6)
+
+
+def test_trial_by_a_clock_that_was_ahead_does_not_count(runner: Runner) -> None:
+    words = [*engines(one="gtp_engine", two="gtp_engine"), "--seeds", "1", "--", "--size", "1"]
+    runner.tournament("plan", "all", *words)
+    runner.pass_trials()
+    passed = runner.folder / "all/tried" / os.uname().nodename / "passed"
+    lines = passed.read_text().replace("passed ", "unstarted ").splitlines()
+    tomorrow = time.time() + 86400
+    passed.write_text("".join(f"{line}\t{tomorrow}\tit ended\n" for line in lines))
+    done = runner.tournament("play", "all")
+    assert (done.status, done.errors, len(runner.games())) == (0, "", 2)
 
 
 # ---- what is kept of a trial

@@ -123,7 +123,7 @@ class Game:
         if reason is None:
             return None
         if not reason:
-            line = results.last_line(self.places.new_log)
+            line = results.last_quote(self.places.new_log)
             return self.no_result(f"what stands between ended: {line}", found=found)
         text = f"{self.engine(side)} wasn't started: {reason}"
         return self.no_result(text, NOT_STARTED[side], found)
@@ -158,7 +158,7 @@ class Game:
         if status < 0:
             return f"ended by signal {-status}"
         if status in (USAGE, BROKEN):
-            line = results.last_line(self.places.new_log)
+            line = results.last_quote(self.places.new_log)
             return line or f"status {status} of twogtp: is the disk full?"
         if status in (PLAYED, FAILED):
             return "what twogtp wrote is not whole: is the disk full?"

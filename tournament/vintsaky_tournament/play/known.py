@@ -4,7 +4,7 @@ FOLDER/tried/HOST/passed has a line for each trial, of which the last one counts
 what was tried, or `failed KEY` where an engine that passed wasn't started in a game. What an engine
 can't do is `unable KEY<tab>LIMITS<tab>REASON`, and counts as long as the limits are the same.
 `unstarted KEY<tab>TIME<tab>REASON` counts for those that began before that time: they waited for
-this trial.
+this trial. A time that is still to come is that of a clock that was ahead, and doesn't count.
 """
 from __future__ import annotations
 
@@ -122,7 +122,7 @@ class KnownEngines:
             self.done.add(name)
             advice = f"to try again, remove {self.run.folder}/{self.name}/passed"
             output.report(f"{name}: {reason}; tried before: {advice}")
-        elif verdict == Verdict.UNSTARTED and seconds_of(counts) > self.began:
+        elif verdict == Verdict.UNSTARTED and self.began < seconds_of(counts) <= time.time():
             output.report(f"{name} can't be started here: {reason}")
             return False
         return True if verdict == Verdict.PASSED or name in self.done else None

@@ -19,8 +19,8 @@ def try_engine(known: KnownEngines, name: str) -> bool:
     log = new_file(place)
     report = report_on(known, name, log)
     os.close(log)
-    written = results.last_line(place)
-    if not written:
+    lines = results.last_lines(place)
+    if not lines:
         os.unlink(place)
     if report.passed is Passed.ALL or report.version:
         twogtp = programs.version_of(known.match.twogtp)
@@ -28,19 +28,22 @@ def try_engine(known: KnownEngines, name: str) -> bool:
     if report.passed is Passed.ALL:
         known.note(Verdict.PASSED, name)
     elif not known.run.stopped:
-        tell(known, name, report, written)
+        tell(known, name, report, lines)
     if report.passed is Passed.NOTHING:
         return False
     known.done.add(name)
     return True
 
 
-def tell(known: KnownEngines, name: str, report: Report, written: str) -> None:
+def tell(known: KnownEngines, name: str, report: Report, lines: list[bytes]) -> None:
     """Reports what an engine can't do, and writes it down, except of a trial that broke."""
     reason = report.failure or "its trial was ended"
-    if written:
+    if lines:
         log = f"{known.run.folder}/{known.name}/{name}.log"
-        reason += f"; the last line of {log} is: {written}"
+        errors = [line for line in lines if b"error:" in line.lower()]
+        line = errors[-1] if errors and report.passed is Passed.NOTHING else lines[-1]
+        which = "the last line" if line == lines[-1] else "a line"
+        reason += f"; {which} of {log} is: {results.quote(line)}"
     if report.passed is Passed.NOTHING:
         output.report(f"{name} can't be started here: {reason}")
         known.note(Verdict.UNSTARTED, name, str(time.time()), reason)

@@ -28,6 +28,8 @@ OF_SERVER = re.compile(r"[BW]\+(?:T|F\([A-Za-z ]{1,20}\))")
 BOARD_END = re.compile(r"captures B [0-9]+ W [0-9]+\n\n\Z")
 LINE = "game 1: (([BWalu0][^\n]*) moves ([0-9]{1,4}) restarts ([0-9]{1,4}) ([0-9]{1,4}))"
 MOST_REPORTED = 10  # files that can't be read, each with a message of its own
+END = 65536  # bytes at the end of a file in which its last lines are
+QUOTED, CUT = 200, " .."  # the bytes of a line that a message has, and the end of a longer one
 CHUNK = 16384  # bytes, which a result seldom has
 HAVE_RESULT = (State.WHOLE, State.LOST)
 
@@ -216,11 +218,33 @@ def state_of(result: Result | None) -> State:
     return State.LOST if result.is_lost() else State.WHOLE
 
 
-def last_line(place: str, most: int = 65536) -> str:
-    """Returns the last line of a file; an empty one where it can't be read."""
+def last_lines(place: str) -> list[bytes]:
+    """Returns the last lines of a file; none where it is empty or can't be read."""
     try:
         with open(place, "rb") as file:
-            file.seek(max(0, os.fstat(file.fileno()).st_size - most))
-            return os.fsdecode(file.read().rstrip(b"\n").rpartition(b"\n")[2])
+            file.seek(max(0, os.fstat(file.fileno()).st_size - END))
+            text = file.read().rstrip(b"\n")
     except OSError:
-        return ""
+        return []
+    return text.split(b"\n") if text else []
+
+
+def last_line(place: str) -> str:
+    """Returns the last line of a file; an empty one where there is none."""
+    lines = last_lines(place)
+    return os.fsdecode(lines[-1]) if lines else ""
+
+
+def quote(line: bytes) -> str:
+    """Returns a line that an engine may have written as a message has it: not too much of it."""
+    if len(line) <= QUOTED:
+        return os.fsdecode(line)
+    end = QUOTED - len(CUT)
+    while end > 1 and line[end] & 0xC0 == 0x80:  # in the middle of a character
+        end -= 1
+    return os.fsdecode(line[:end]) + CUT
+
+
+def last_quote(place: str) -> str:
+    """Returns the last line of a file as a message has it."""
+    return quote(b"".join(last_lines(place)[-1:]))
