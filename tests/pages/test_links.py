@@ -27,6 +27,7 @@ LIMITS = {
     "crates/gtp_session/CALLING.md": 450,
     "docs/DECISIONS.md": 1450,
     "docs/check.md": 1400,
+    "docs/clocks.md": 600,
     "docs/controller.md": 1800,
     "docs/engine.md": 800,
     "docs/extending.md": 1600,

@@ -92,10 +92,24 @@ MISTAKES = {
     "play all --time-left soon": (
         "--time-left needs a time such as 1-00:30:00, 30:00 or 90, and not 'soon'"
     ),
+    "play x --clock": "--clock needs a clock after it, such as --clock 'byoyomi 600 30 5'",
+    "play x --clock 600": (
+        "--clock needs absolute MAIN, canadian MAIN PERIOD MOVES, byoyomi MAIN PERIOD COUNT or "
+        "fischer MAIN INCREMENT, and not '600'"
+    ),
+    "plan x --clock 'fischer 300'": (
+        "--clock needs fischer MAIN INCREMENT, such as fischer 300 5, and not 'fischer 300'"
+    ),
+    "play x --margin 0": f"--margin {NO_SECONDS} '0'",
+    "play x ENGINES --margin 1": (
+        "--margin is a part of a clock: give --clock, too, or leave out --margin"
+    ),
     "play x --again=yes": "--again has no value: write --again",
     # what a directory was begun with
     "play x --direct --move-limit 5": f"--move-limit {NO_DIRECT}",
     "plan x --start-limit=5 --direct": f"--start-limit {NO_DIRECT}",
+    "plan x --direct --clock 'absolute 5'": f"--clock {NO_DIRECT}",
+    "plan x --direct --margin 1": f"--margin {NO_DIRECT}",
     "plan x --openings o --direct": f"--openings {NO_DIRECT}",
     "play x --openings": "--openings needs FILE after it, such as --openings openings.txt",
     "play x --opening=o": "play has no option --opening: is it --openings?",
@@ -104,6 +118,9 @@ MISTAKES = {
     "play x ENGINES --openings=all": "all can't be read: Is a directory",
     "play all --direct": f"all was begun without --direct: {OTHER}",
     "play all --move-limit 5": f"all was begun with no --move-limit: {OTHER}",
+    "play all --clock 'absolute 5'": f"all was begun with no --clock: {OTHER}",
+    "play timed --clock 'absolute 5'": f"timed was begun with --clock absolute 9: {OTHER}",
+    "play timed --margin 1": f"timed was begun with --margin 2: {OTHER}",
     "play direct --move-limit 5": (
         f"direct was begun with --direct, so it can't have --move-limit: {OTHER}"
     ),
@@ -160,6 +177,7 @@ def planned(shared_runner: Runner) -> Runner:
     plans: Dict[str, List[str]] = {
         "all": TWO,
         "direct": [*TWO, "--direct"],
+        "timed": [*TWO, "--clock", "absolute 9", "--margin", "2"],
         "three": [*TWO, *three],
         "gauntlet": [*TWO, *three, "--gauntlet", "one"],
     }
@@ -250,7 +268,7 @@ def test_options_that_a_plan_does_not_keep(
 # ---- help
 
 OF_PLAN = ["--engine", "--seeds", "--gauntlet", "--limit", "--move-limit", "--start-limit"]
-OF_PLAN += ["--openings", "--direct"]
+OF_PLAN += ["--clock", "--margin", "--openings", "--direct"]
 OF_PLAY = [*OF_PLAN, "--jobs", "--again", "--task", "--time-left"]
 OF_LOSSES = ["--abandoned"] * 3 + ["--late"]
 OF_TALLY = [*OF_LOSSES, "--no-winner", "--no-winner", "--sprt", "--between", "--json"]

@@ -74,6 +74,8 @@ class Plan:
         self.is_direct = False  # whether twogtp itself starts the engines
         self.start_limit: str | None = None  # seconds, as they are written
         self.move_limit: str | None = None
+        self.clock: str | None = None  # of each side, as relay/clock.py reads it
+        self.margin: str | None = None  # seconds of a move that the clock doesn't count
         self.openings: list[str] = []  # the moves of each, with spaces between them
         self.known_games: Games | None = None
 
@@ -214,7 +216,7 @@ class Way(str, enum.Enum):  # as str its hash is quick, which each result of a t
     DRAWN = "0"
     LIMIT = "limit"  # of moves
     FORFEITED = "forfeit"
-    TIME = "time"  # lost on time, by a server
+    TIME = "time"  # lost on time, by the clock or by a server
     UNFIT = "unfit"
     ABANDONED = "abandoned"
     LATE = "late"  # abandoned, since an answer was late

@@ -9,7 +9,7 @@ from ..cluster import share, time_left
 from ..config.arguments import OF_PLAY, Words, processors
 from ..config.changes import Folder, plan_for, warning_of
 from ..config.plan_file import read_plan, write_plan
-from ..config.values import number, seconds
+from ..config.values import clock, number, seconds
 from ..model import Plan
 from ..output import Mistake
 from ..play.programs import find_twogtp, try_options
@@ -18,7 +18,8 @@ from ..store.layout import make_folders
 if TYPE_CHECKING:
     from ..config.openings import Opening
 
-TAKEN_BY_DIRECT = ("--move-limit", "--start-limit", "--openings")  # what it leaves out
+# what it leaves out
+TAKEN_BY_DIRECT = ("--move-limit", "--start-limit", "--clock", "--margin", "--openings")
 
 
 class Prepared(NamedTuple):
@@ -44,6 +45,7 @@ def asked_plan(words: Words) -> tuple[Plan, bool]:
     plan.seeds, plan.limit = words.last("--seeds", number), words.last("--limit", number)
     plan.move_limit = words.last("--move-limit", seconds)
     plan.start_limit = words.last("--start-limit", seconds)
+    plan.clock, plan.margin = words.last("--clock", clock), words.last("--margin", seconds)
     plan.is_direct = words.has("--direct")
     for left_out in TAKEN_BY_DIRECT:
         if plan.is_direct and words.has(left_out):

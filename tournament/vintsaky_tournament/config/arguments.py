@@ -32,6 +32,8 @@ OF_PLAN: Options = {
     "--limit": Option("a number of seconds", "--limit 600"),
     "--move-limit": Option("seconds", "--move-limit 30"),
     "--start-limit": Option("seconds", "--start-limit 300"),
+    "--clock": Option("a clock", "--clock 'byoyomi 600 30 5'"),
+    "--margin": Option("seconds", "--margin 0.1"),
     "--openings": Option("FILE", "--openings openings.txt"),
     "--direct": None,
     "--gauntlet": Option("an engine's NAME", "--gauntlet new"),

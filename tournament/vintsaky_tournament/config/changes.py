@@ -1,14 +1,17 @@
 """A plan that is changed: what is asked for is joined with what a folder has."""
 from __future__ import annotations
 
+import math
 import os
 from typing import NamedTuple
 
 from ..model import Plan
 from ..output import Mistake
 from .plan_file import ELSEWHERE, fixed_lines, parse, read_text
+from .setup import Setup
 
 SEEDS, LIMIT, START_LIMIT = 10, 600, "60"  # of a plan that doesn't say otherwise
+MOST_SECONDS = 9999999  # of a limit
 TWO_ENGINES = "name two engines or more: --engine NAME=CMD --engine NAME=CMD"
 
 
@@ -45,10 +48,24 @@ def plan_for(asked: Plan, is_given: bool, place: str) -> Folder:
         asked.start_limit = asked.start_limit or (None if asked.is_direct else START_LIMIT)
         folder = Folder(place, asked, None, list(asked.engines))
     plan = folder.plan
-    plan.seeds, plan.limit = asked.seeds or plan.seeds or SEEDS, asked.limit or plan.limit or LIMIT
+    plan.seeds = asked.seeds or plan.seeds or SEEDS
+    plan.limit = asked.limit or plan.limit or default_limit(plan)
     plan.start_limit = asked.start_limit or plan.start_limit
     check(plan)
     return folder
+
+
+def default_limit(plan: Plan) -> int:
+    """Returns the limit of a game of a plan that doesn't say it: on top of all that both sides'
+    clocks allow, if they have any."""
+    if not plan.clock:
+        return LIMIT
+    from ..relay.clock import read_clock  # which few plans need
+
+    moves = Setup(plan.options).max_moves
+    most = int(moves) if moves.isdecimal() else 1  # twogtp says what is wrong there
+    allowed = 2 * read_clock(plan.clock).most_seconds((most + 1) // 2 or 1)
+    return min(MOST_SECONDS, LIMIT + math.ceil(allowed + most * float(plan.margin or 0)))
 
 
 def joined(asked: Plan, is_given: bool, place: str) -> Folder:
@@ -137,15 +154,19 @@ def check_limits(plan: Plan, asked: Plan, folder: str) -> None:
     values = {
         "--start-limit": asked.start_limit,
         "--move-limit": asked.move_limit,
+        "--clock": asked.clock,
+        "--margin": asked.margin,
         "--openings": asked.openings,
     }
     given = [option for option, value in values.items() if value]
     if given and plan.is_direct:
         how = "by earlier scripts, which had none" if plan.is_old() else "with --direct"
         raise Mistake(f"{folder} was begun {how}, so it can't have {given[0]}: {ELSEWHERE}")
-    if asked.move_limit and asked.move_limit != plan.move_limit:
-        old = f"--move-limit {plan.move_limit}" if plan.move_limit else "no --move-limit"
-        raise Mistake(f"{folder} was begun with {old}: {ELSEWHERE}")
+    kept = {"--move-limit": plan.move_limit, "--clock": plan.clock, "--margin": plan.margin}
+    for option, value in kept.items():
+        if values[option] and values[option] != value:
+            old = f"{option} {value}" if value else f"no {option}"
+            raise Mistake(f"{folder} was begun with {old}: {ELSEWHERE}")
     if asked.openings and asked.openings != plan.openings:
         which = "other" if plan.openings else "no"
         raise Mistake(f"{folder} was begun with {which} openings: {ELSEWHERE}")
@@ -191,6 +212,8 @@ def check(plan: Plan) -> None:
     """Raises Mistake where something is wrong that nothing else looks at."""
     fixed_lines(plan)
     plan.games()
+    if plan.margin and not plan.clock:
+        raise Mistake("--margin is a part of a clock: give --clock, too, or leave out --margin")
     if "\n" in (plan.folder or ""):
         raise Mistake(f"the name of the directory {plan.folder} has more than one line")
     for engine in plan.engines.values():

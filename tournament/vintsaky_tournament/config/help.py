@@ -26,6 +26,13 @@ PLAN = """\
   --start-limit SECONDS
                      time limit of every answer except that to genmove; the
                      first one includes the engine's start [60]
+  --clock CLOCK      the clock of each side, by which it loses on time:
+                     'absolute MAIN', 'canadian MAIN PERIOD MOVES',
+                     'byoyomi MAIN PERIOD COUNT' or 'fischer MAIN INCREMENT',
+                     all but MOVES and COUNT in seconds. --limit is by default
+                     what both clocks allow, and 600 seconds more. You can't add
+                     or change a clock later [no clock]
+  --margin SECONDS   what the clock doesn't count of each move [0]
   --openings FILE    openings; each line has the moves of one, such as
                      D4 Q16 pass, and # begins a comment. Seed 1 has the first
                      opening, with both colours, seed 2 the second, and so on;
@@ -33,7 +40,8 @@ PLAN = """\
                      openings later
   --direct           saves 30 milliseconds a game: twogtp itself starts the
                      engines, so commands have no quotes. There are no limits of
-                     an answer and no openings, and no notes of the moves
+                     an answer, no clocks and no openings, and no notes of the
+                     moves
 """
 PLAY = """\
   --jobs N           play N games at once; a plan doesn't keep N [the number of
@@ -86,18 +94,19 @@ HELP: dict[str | None, str] = {
 usage: tournament play FOLDER --engine NAME=CMD --engine NAME=CMD ..
            [--gauntlet NAME]
            [--seeds N] [--limit SECONDS] [--move-limit SECONDS]
-           [--start-limit SECONDS] [--openings FILE] [--direct] [--jobs N]
-           [--again] [--task K/T] [--time-left TIME] [-- OPTION ..]
+           [--start-limit SECONDS] [--clock CLOCK] [--margin SECONDS]
+           [--openings FILE] [--direct] [--jobs N] [--again] [--task K/T]
+           [--time-left TIME] [-- OPTION ..]
        tournament play FOLDER ..            if FOLDER has a plan
 
 Plays all games of FOLDER that have no result, seed by seed; a damaged result
 counts as none. The same command goes on where it was stopped. If FOLDER has a
-plan, give engines, --gauntlet, --openings, --move-limit, --direct and options
-all as in the plan, or give none of them. You can add engines after the others.
-If the plan has more engines or seeds than the command, the whole plan is
-played. New engines are added to a plan only if each of them can be started on
-this machine. Each minute, and in a terminal each ten seconds, a line on
-standard error shows the progress.
+plan, give engines, --gauntlet, --openings, --move-limit, --clock, --margin,
+--direct and options all as in the plan, or give none of them. You can add
+engines after the others. If the plan has more engines or seeds than the
+command, the whole plan is played. New engines are added to a plan only if each
+of them can be started on this machine. Each minute, and in a terminal each ten
+seconds, a line on standard error shows the progress.
 """,
             PLAN + PLAY + OPTION,
             FILES,
@@ -110,8 +119,8 @@ standard error shows the progress.
 usage: tournament plan FOLDER --engine NAME=CMD --engine NAME=CMD ..
            [--gauntlet NAME]
            [--seeds N] [--limit SECONDS] [--move-limit SECONDS]
-           [--start-limit SECONDS] [--openings FILE] [--direct]
-           [-- OPTION ..]
+           [--start-limit SECONDS] [--clock CLOCK] [--margin SECONDS]
+           [--openings FILE] [--direct] [-- OPTION ..]
 
 Makes FOLDER and FOLDER/plan, plays nothing, and tries no engine. The arguments
 are those of tournament play. If FOLDER has a plan, you can give it more seeds,

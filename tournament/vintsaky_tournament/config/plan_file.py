@@ -1,10 +1,11 @@
 """The file of a plan: how it is read and written.
 
 FOLDER/plan has a line each: `folder FOLDER`, in which engines start, `engine NAME COMMAND`, `option
-WORD`, `seeds N`, `limit SECONDS`. For `between` it has `start-limit SECONDS`, `move-limit SECONDS`
-and `opening MOVE ..`, or `direct` where that is left out. With `gauntlet NAME` this engine plays
-each other one, and no others play. A plan without `folder` is one of earlier scripts: its engines
-start in the working directory, and directly; it has none of the lines for `between`.
+WORD`, `seeds N`, `limit SECONDS`. For `between` it has `start-limit SECONDS`, `move-limit SECONDS`,
+`clock CLOCK`, `margin SECONDS` and `opening MOVE ..`, or `direct` where that is left out. With
+`gauntlet NAME` this engine plays each other one, and no others play. A plan without `folder` is one
+of earlier scripts: its engines start in the working directory, and directly; it has none of the
+lines for `between`.
 
 A line that begins with # is a comment, which stays above the line that it is above of.
 """
@@ -15,14 +16,14 @@ import re
 
 from ..model import Plan
 from ..output import Mistake
-from .values import number, seconds
+from .values import clock, number, seconds
 
 MOVE = "(?:[A-HJ-Z](?:[1-9]|1[0-9]|2[0-5])|pass)"
 OPENING = re.compile(f"{MOVE}(?: {MOVE})*")
 ELSEWHERE = "take another directory"
-ONCE = ("folder", "gauntlet", "direct", "move-limit", "start-limit", "seeds", "limit")
+LIMITS_OF_ANSWERS = ("move-limit", "start-limit", "clock", "margin")
+ONCE = ("folder", "gauntlet", "direct", *LIMITS_OF_ANSWERS, "seeds", "limit")
 CHANGED = ("start-limit", "seeds", "limit")  # of these lines the rest may change
-LIMITS_OF_ANSWERS = ("move-limit", "start-limit")
 FOR_BETWEEN = ("direct", *LIMITS_OF_ANSWERS, "opening")
 
 
@@ -50,6 +51,10 @@ def add_line(plan: Plan, line: str, place: str) -> None:
         plan.start_limit = seconds(f"start-limit of {place}", rest)
     elif kind == "move-limit":
         plan.move_limit = seconds(f"move-limit of {place}", rest)
+    elif kind == "clock":
+        plan.clock = clock(f"clock of {place}", rest)
+    elif kind == "margin":
+        plan.margin = seconds(f"margin of {place}", rest)
     elif kind == "opening" and OPENING.fullmatch(rest):
         plan.openings.append(rest)
     else:
@@ -124,7 +129,8 @@ def lines_of_start(plan: Plan) -> list[str]:
         return []
     if plan.is_direct:
         return ["direct"]
-    return [f"move-limit {plan.move_limit}"] if plan.move_limit else []
+    values = {"move-limit": plan.move_limit, "clock": plan.clock, "margin": plan.margin}
+    return [f"{key} {value}" for key, value in values.items() if value]
 
 
 def fixed_lines(plan: Plan) -> list[str]:

@@ -18,3 +18,14 @@ def seconds(option: str, text: str) -> str:
     if not re.fullmatch(r"[0-9]{1,7}(\.[0-9]{1,6})?", text) or not float(text):
         raise Mistake(f"{option} needs seconds above 0, such as 60 or 0.5, and not '{text}'")
     return text
+
+
+def clock(option: str, text: str) -> str:
+    """Returns the clock of an option, as it is written, with one space between its parts."""
+    from ..relay.clock import BadClock, read_clock  # which few plans need
+
+    try:
+        read_clock(text)
+    except BadClock as bad:
+        raise Mistake(f"{option} needs {bad}, and not '{text}'") from None
+    return " ".join(text.split())

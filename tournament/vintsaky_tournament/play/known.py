@@ -27,6 +27,7 @@ if TYPE_CHECKING:
 
 NO_START = 69  # the status where an engine can't be started
 PAUSE = 0.2  # seconds between two looks whether another process has ended its trials
+MOVE_LIMIT = 600  # seconds of a move where games have clocks: a trial has none
 SOON = 10  # seconds after which it is said what is waited for
 TO_SPACES = {ord(character): " " for character in "\t\n\0"}
 
@@ -70,7 +71,8 @@ class KnownEngines:
         self.again: set[str] = set()  # engines that are tried whatever is known of them
         self.began = time.time()
         limit = plan.limit or 0
-        answer, move = float(plan.start_limit or limit), float(plan.move_limit or limit)
+        answer = float(plan.start_limit or limit)
+        move = float(plan.move_limit or (MOVE_LIMIT if plan.clock else limit))
         self.limits = Limits(answer, move, min(answer, float(limit)))
         self.name = f"tried/{os.uname().nodename}"
         self.place = f"{run.at}/{self.name}"

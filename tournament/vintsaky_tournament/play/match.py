@@ -5,7 +5,7 @@ import marshal
 import os
 import re
 import sys
-from typing import TYPE_CHECKING
+from typing import TYPE_CHECKING, Sequence
 
 from .. import output
 from ..model import COLOURS, GameId, Plan, Side
@@ -21,6 +21,7 @@ if TYPE_CHECKING:
 # what `between` needs, in the order in which one imports another, and first the packages
 PACKAGES = ("", ".relay")
 MODULES = (".processes", ".relay.conversation", ".relay.between")
+OF_CLOCKS = (".relay.clock", ".relay.timing")
 PACKAGE = __name__.split(".")[0]
 ANNOTATIONS = b"from __future__ import annotations\n"
 # of an engine that answered nothing, by a line of --why without its beginning
@@ -43,7 +44,7 @@ class Match:
     def prepare(self) -> None:
         """Makes what all games need, in the process from which theirs are forked."""
         if self.code is None and not self.is_direct:
-            self.code = compiled()
+            self.code = compiled((*OF_CLOCKS, *MODULES) if self.plan.clock else MODULES)
 
     def command(self, engine: str, seed: int) -> list[str]:
         """Returns the words of an engine's command, in a game with this seed."""
@@ -69,8 +70,13 @@ class Match:
             f"folder {self.folder}",
             f"held /proc/{os.getpid()}/fd/{held} {os.fstat(held).st_ino}",
         ]
-        opening = plan.opening(game.seed)
-        values = {"limit": plan.start_limit, "move-limit": plan.move_limit, "opening": opening}
+        values = {
+            "limit": plan.start_limit,
+            "move-limit": plan.move_limit,
+            "clock": plan.clock,
+            "margin": plan.margin,
+            "opening": plan.opening(game.seed),
+        }
         parts += [f"{key} {value}" for key, value in values.items() if value]
         for colour, engine in zip(COLOURS, game.engines):
             parts += [f"{colour} {word}" for word in self.command(engine, game.seed)]
@@ -78,14 +84,14 @@ class Match:
         return os.fsencode(text) + b"\0\0" + (self.code or b"")
 
 
-def compiled() -> bytes:
-    """Returns the modules that `between` needs, without what costs time at its start: docstrings,
-    and the import by which annotations aren't evaluated, of which the compiler is told here."""
+def compiled(names: Sequence[str]) -> bytes:
+    """Returns these modules, without what costs `between` time at its start: docstrings, and the
+    import by which annotations aren't evaluated, of which the compiler is told here."""
     import __future__
 
     flags = __future__.annotations.compiler_flag
     modules: list[tuple[str, CodeType | None]] = [(PACKAGE + name, None) for name in PACKAGES]
-    for module in MODULES:
+    for module in names:
         name = PACKAGE + module
         place = f"{programs.HERE}/{name.replace('.', '/')}.py"
         with open(place, "rb") as file:

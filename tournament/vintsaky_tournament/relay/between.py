@@ -1,17 +1,17 @@
 """Stands between twogtp and an engine of a game: starts the engine, and passes the bytes both ways.
 
-The file of the game has parts, separated by zero bytes: `notes FILE`, `folder FOLDER`, and
-`black WORD` for each word of the command of that colour. It may have `limit SECONDS`, for each
-answer except that to genmove, `move-limit SECONDS`, for that, and `opening MOVE ..`: then the
-engine is sent the moves with which the game begins by `play`, in place of `genmove`. The notes get
-the moves as they are played, and how the engine ended. `held FILE NUMBER` is a pipe that the game's
-process holds, and the number of its inode. twogtp passes an engine three streams only, so the pipe
-is opened by its name.
+The file of the game has parts, separated by zero bytes: `notes FILE`, `folder FOLDER`, and `black
+WORD` for each word of the command of that colour. It may have `limit SECONDS`, for each answer
+except that to genmove, `move-limit SECONDS`, for that, `clock CLOCK` with `margin SECONDS`, and
+`opening MOVE ..`: then the engine is sent the moves with which the game begins by `play`, in place
+of `genmove`. The notes get the moves as they are played, and how the engine ended. `held FILE
+NUMBER` is a pipe that the game's process holds, and the number of its inode. twogtp passes an
+engine three streams only, so the pipe is opened by its name.
 
-An engine that was late is ended with all that it started, and isn't started again in this game. The
-engine ends with this process; what it started is ended by the game's process. This process runs as
-long as somebody has the engine's output and the game's process lives: once that has ended, all that
-is below this one is ended at once.
+An engine that was late, or out of time by its clock, is ended with all that it started, and isn't
+started again in this game. The engine ends with this process; what it started is ended by the
+game's process. This process runs as long as somebody has the engine's output and the game's process
+lives: once that has ended, all that is below this one is ended at once.
 
 status: the engine's, or the signal that ended it; 124 if an answer was late; 125 if the notes can't
         be written, or the game is over; 126 or 127 if the engine can't be started
@@ -30,6 +30,8 @@ TYPE_CHECKING = False  # as of typing, whose import takes longer than all of thi
 if TYPE_CHECKING:
     from collections.abc import Collection
     from typing import NoReturn
+
+    from .timing import Timing
 
 CHUNK = 65536  # bytes that are read at once
 LATE, OVER = 124, 125
@@ -59,7 +61,8 @@ class Game:
     """What the file of the game says of this colour's engine."""
 
     def __init__(self, text: bytes, colour: str) -> None:
-        keys = ("notes", "folder", "held", "limit", "move-limit", "opening", colour)
+        limits = ("limit", "move-limit", "clock", "margin")
+        keys = ("notes", "folder", "held", "opening", colour, *limits)
         parts: dict[str, list[str]] = {key: [] for key in keys}
         for part in os.fsdecode(text).split("\0"):
             key, _, value = part.partition(" ")
@@ -69,6 +72,8 @@ class Game:
         self.limit, self.move_limit = (
             float(parts[key][0]) if parts[key] else None for key in ("limit", "move-limit")
         )
+        self.clock = parts["clock"][0] if parts["clock"] else None
+        self.margin = float(parts["margin"][0]) if parts["margin"] else 0.0
         self.opening = [move.upper().encode() for line in parts["opening"] for move in line.split()]
         self.notes = os.open(self.place, os.O_RDWR | os.O_APPEND | os.O_CLOEXEC)
         self.held = [end for pipe in parts["held"] for end in open_held(*pipe.split(" "))]
@@ -86,10 +91,26 @@ class Game:
             raise Exit(OVER)
         return readable
 
+    def lines(self) -> list[str]:
+        """Returns the lines of the notes."""
+        return os.pread(self.notes, os.fstat(self.notes).st_size, 0).decode("latin-1").split("\n")
+
     def was_late(self) -> bool:
-        """Returns whether an engine of this colour was late in the game."""
-        lines = os.pread(self.notes, os.fstat(self.notes).st_size, 0).decode("latin-1").split("\n")
-        return any(line.split(" ")[1:3] == [self.colour, "late"] for line in lines)
+        """Returns whether an engine of this colour was late in the game, or out of time."""
+        late = ([self.colour, "late"], [self.colour, "out-of-time"])
+        return any(line.split(" ")[1:3] in late for line in self.lines())
+
+    def timing(self) -> Timing | None:
+        """Returns the clock of this colour, of which earlier starts have used what the notes say;
+        None without a clock."""
+        if self.clock is None:
+            return None
+        from .clock import read_clock  # which most games don't need
+        from .timing import Timing
+
+        timing = Timing(read_clock(self.clock), self.margin)
+        timing.charge_notes(self.lines(), self.colour)
+        return timing
 
     def write_note(self, text: str) -> None:
         """Writes a note. Where it can't be written whole the notes are removed, and so the game is
@@ -164,11 +185,14 @@ class Relay:
 
     def run(self) -> bool:
         """Passes bytes until the engine's output has ended. Returns whether an answer is late."""
-        output = self.engine.output
+        output, is_last_look = self.engine.output, False
         while True:
             pause = self.conversation.seconds_to_wait()
             if pause is not None and pause <= 0:
-                return True
+                if is_last_look:
+                    return True
+                pause = 0
+            is_last_look = pause == 0  # in which an answer counts that is there by then
             if STDIN not in self.reads:
                 pause = PAUSE if pause is None else min(PAUSE, pause)
                 self.end_if_abandoned()
@@ -274,7 +298,7 @@ def end_as(status: int) -> NoReturn:
 def play(game: Game) -> NoReturn:
     """Starts the engine of a game and passes the bytes, until it has ended. Ends as it."""
     limits = game.limit, game.move_limit
-    conversation = Conversation(game.colour, limits, game.opening, game.write_note)
+    conversation = Conversation(game.colour, limits, game.opening, game.write_note, game.timing())
     if game.was_late():
         conversation.note("stays ended")
         report(game.colour, "it was late, and isn't started again")
@@ -304,12 +328,14 @@ def play(game: Game) -> NoReturn:
 
 
 def end_late(relay: Relay) -> NoReturn:
-    """Ends an engine whose answer is late."""
+    """Ends an engine whose answer is late, or that is out of time."""
     conversation = relay.conversation
+    event = conversation.late_event()
     if STDIN in relay.reads:
-        conversation.note_no_answer("late")
+        conversation.note_no_answer(event)
     command = conversation.waiting[0].text.decode("latin-1")
-    report(conversation.colour, f"no answer in time to {command!r}")
+    problem = "no answer in time to" if event == "late" else "out of time at"
+    report(conversation.colour, f"{problem} {command!r}")
     processes.end_descendants()
     raise Exit(LATE)
 

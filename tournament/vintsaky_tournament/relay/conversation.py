@@ -3,6 +3,9 @@
 As long as the game follows its opening, `ID genmove COLOUR` becomes `ID play COLOUR VERTEX` for
 the engine, and its success becomes `=ID VERTEX` for twogtp. So each command keeps its answer.
 
+With a clock the engine gets commands that twogtp didn't send (timing.py). They have no numbers, and
+twogtp gets nothing of their answers.
+
 Each event is written at once, as a line of the game's notes (store/notes.py).
 """
 from __future__ import annotations
@@ -13,10 +16,13 @@ TYPE_CHECKING = False  # as of typing, whose import takes longer than all of thi
 if TYPE_CHECKING:
     from collections.abc import Callable
 
+    from .timing import Timing
+
 COMMENT, TAB_TO_SPACE = b"#", bytes.maketrans(b"\t", b" ")
 CONTROL = bytes(code for code in range(128) if code < 32 and code not in (9, 10) or code == 127)
 ANSWER_LOOKED_AT = 300  # bytes of an answer that are kept, to see what it says
 ANSWER_HELD = 8192  # bytes of an answer that twogtp takes
+LIST_HELD = 65536  # bytes of an answer to an own command
 NOTED_AFTER = 0.2  # seconds after which a note says that a move is waited for
 RESIGN = b"RESIGN"
 FAILED, SUCCEEDED = b"?", b"="
@@ -30,10 +36,13 @@ def as_written(vertex: bytes) -> bytes:
 class Command:
     """A command that wasn't answered yet."""
 
-    __slots__ = ("text", "name", "since", "opening_move", "is_noted")
+    __slots__ = ("text", "name", "since", "opening_move", "is_own", "is_noted")
 
-    def __init__(self, text: bytes, name: bytes, opening_move: bytes | None) -> None:
+    def __init__(
+        self, text: bytes, name: bytes, opening_move: bytes | None, is_own: bool = False
+    ) -> None:
         self.text, self.name = text, name
+        self.is_own = is_own  # whether twogtp didn't send it
         self.opening_move = opening_move  # which the engine is sent in place of a genmove
         self.since = time.monotonic()
         self.is_noted = name != b"genmove"  # whether a note says that it is waited for
@@ -60,8 +69,10 @@ class Conversation:
         limits: tuple[float | None, float | None],
         opening: list[bytes],
         write_note: Callable[[str], None],
+        timing: Timing | None = None,
     ) -> None:
         self.colour, self.opening, self.write_note = colour, opening, write_note
+        self.timing = timing  # None without a clock
         self.limit, self.move_limit = limits  # of a genmove the second one; None for no limit
         self.began = time.monotonic()
         self.last_answer = self.began  # when the last answer ended
@@ -70,6 +81,7 @@ class Conversation:
         self.unfinished_line = b""  # of twogtp
         self.answer = b""  # the beginning of the engine's answer, without control characters
         self.held: bytes | None = None  # the bytes of a success that twogtp gets in another form
+        self.own_answer: bytes | None = None  # to a command that twogtp didn't send
         self.at_line_start = True  # of the engine's output
         self.in_answer = False
         self.has_answered = False
@@ -106,8 +118,12 @@ class Conversation:
                 sent = [number, b"play", *words[1:2], as_written(opening_move)]
                 text = b" ".join(filter(None, sent))
                 line = text + b"\n"
+        own: list[bytes] = []
+        if self.timing:
+            own = self.timing.commands_before(b"play" if opening_move else name, words)
+        self.waiting += [Command(each, each.split()[0], None, is_own=True) for each in own]
         self.waiting.append(Command(text, name, opening_move))
-        return line
+        return b"".join([each + b"\n" for each in own]) + line
 
     def moves_to_come(self) -> list[bytes]:
         """Returns the moves that there are once all waiting commands have succeeded."""
@@ -145,6 +161,10 @@ class Conversation:
             self.at_line_start = bare.endswith(b"\n")
         if len(self.answer) < ANSWER_LOOKED_AT:
             self.answer += bare
+        if self.own_answer is not None:
+            if len(self.own_answer) < LIST_HELD:
+                self.own_answer += bare
+            line = b""
         if self.held is not None:
             self.held += line
             line = b""
@@ -161,6 +181,7 @@ class Conversation:
         self.in_answer, self.answer = True, b""
         is_opening = self.waiting and self.waiting[0].opening_move
         self.held = b"" if bare[:1] == SUCCEEDED and is_opening else None
+        self.own_answer = b"" if self.waiting and self.waiting[0].is_own else None
 
     def end_answer(self, command: Command) -> bytes | None:
         """Notes the answer to a command. Returns what twogtp gets in place of what was written."""
@@ -170,6 +191,9 @@ class Conversation:
             self.write_note(f"0 {self.colour} started {now - self.began:.3f}\n")
             self.has_answered = True
         is_success = self.answer[:1] == SUCCEEDED
+        if self.timing and self.own_answer is not None:
+            self.timing.take_answer(command.name, self.own_answer[1:] if is_success else b"")
+            return None
         if self.held is not None and command.opening_move:
             return self.end_opening_move(command.opening_move)
         if command.name == b"genmove" and not command.opening_move:
@@ -201,6 +225,8 @@ class Conversation:
         is_vertex = is_success and vertex.isalnum() and len(vertex) <= len(RESIGN)
         failure = "no-vertex" if is_success else "failed"
         self.note(f"{as_written(vertex).decode() if is_vertex else failure} {seconds:.3f}")
+        if self.timing:
+            self.timing.charge(seconds, is_move=is_vertex)
         if is_vertex and vertex != RESIGN:
             self.moves.append(vertex)
 
@@ -223,10 +249,21 @@ class Conversation:
         set."""
         if not self.waiting:
             return None
+        command, limit = self.waiting[0], self.limit
+        if command.name == b"genmove" and not command.opening_move:
+            limit = self.move_limit
+            if self.timing and (limit is None or self.timing.seconds_left() <= limit):
+                limit = self.timing.seconds_left()
+        return None if limit is None else self.asked_at(command) + limit - time.monotonic()
+
+    def late_event(self) -> str:
+        """Returns what the notes say where no time is left: whether the limit of an answer is over,
+        or the clock."""
         command = self.waiting[0]
         is_move = command.name == b"genmove" and not command.opening_move
-        limit = self.move_limit if is_move else self.limit
-        return None if limit is None else self.asked_at(command) + limit - time.monotonic()
+        limit = self.move_limit if is_move else None
+        is_out = self.timing and is_move and (limit is None or self.timing.seconds_left() <= limit)
+        return "out-of-time" if is_out else "late"
 
     def seconds_to_wait(self) -> float | None:
         """Returns for how long nothing is to be done here; None for any time.

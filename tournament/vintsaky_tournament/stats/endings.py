@@ -99,5 +99,7 @@ class Endings:
         else:
             black, white = black - found.ignored[0], white - found.ignored[1]
             way = Way.LATE if found.late[side] else way
+            if found.out_of_time[side]:
+                return Ended(Ending(side.other, side, Way.TIME), (black, white))
         winner = side.other if way in self.losing else None
         return Ended(Ending(winner, side, way), (black, white))

@@ -9,7 +9,8 @@ of the next move and the colour:
     2 white undone                      it was refused, and taken back
     2 white failed 0.004                the genmove failed, or its answer is `no-vertex`
     3 black thinks                      the genmove isn't answered yet
-    3 black late 5.001: 12 genmove b    no answer in time; or `ended`, or `waited` if twogtp ended
+    3 black late 5.001: 12 genmove b    no answer in time; or `out-of-time` by the clock, or
+                                        `ended`, or `waited` if twogtp ended
     0 black stays ended                 twogtp started it again, but it was late before
     0 black not started: engine: No such file or directory
     3 black refuses the opening         a move of the opening, its own or the other side's
@@ -25,7 +26,8 @@ from typing import NamedTuple
 from ..model import COLOURS, SIDES, Side
 from . import results
 
-UNANSWERED = ("late", "ended", "waited", "not")  # what the notes say where no answer follows
+TOO_LATE = ("late", "out-of-time")
+UNANSWERED = (*TOO_LATE, "ended", "waited", "not")  # what the notes say where no answer follows
 NOTHING_ASKED = "nothing was asked"
 SECONDS = re.compile(r"([0-9]{1,15}(?:\.[0-9]{1,9})?):?")
 
@@ -42,7 +44,7 @@ class Notes:
 
     def __init__(self, text: str) -> None:
         self.started = [False, False]  # whether any command was answered
-        self.late = [False, False]
+        self.late = [False, False]  # or out of time
         self.ignored = [0, 0]  # restarts that started nothing, since the engine was late before
         self.thought = [0.0, 0.0]  # seconds
         self.last_failure = ["", ""]  # how the last start ended of those that ended too early
@@ -63,7 +65,7 @@ class Notes:
         if len(words) == 4 and event != "started" or " genmove " in rest:
             self.thought[side] += seconds_of(words[3])
         self.started[side] = self.started[side] or event == "started"
-        self.late[side] = self.late[side] or event == "late"
+        self.late[side] = self.late[side] or event in TOO_LATE
         self.ignored[side] += event == "stays"
         self.awaited = Awaited(side, rest) if event in ("waited", "thinks") else None
 
@@ -101,10 +103,12 @@ def seconds_of(word: str) -> float:
 
 class Late:
     """The same of a game in which a side was abandoned, by the bytes of its notes: who was late,
-    and how many restarts started nothing. This is quick, for tallies of very many games."""
+    who was out of time by the clock, and how many restarts started nothing. This is quick, for
+    tallies of very many games."""
 
     def __init__(self, data: bytes) -> None:
         self.late = [count > 0 for count in counts_of(data, b" late ")]
+        self.out_of_time = [count > 0 for count in counts_of(data, b" out-of-time ")]
         self.ignored = counts_of(data, b" stays ")
 
 
