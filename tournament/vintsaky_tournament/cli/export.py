@@ -11,25 +11,25 @@ from ..stats.records import Records
 from .losses import rules_of
 
 if TYPE_CHECKING:
-    from ..config.arguments import Words
+    from ..config.arguments import Arguments
 
 FORMS = ("--pgn", "--csv", "--jsonl", "--sgf")
 
 
-def do_export(words: Words) -> int:
+def do_export(arguments: Arguments) -> int:
     """Writes what is asked for, and returns the status."""
-    forms = [form for form in FORMS if words.has(form)]
+    forms = [form for form in FORMS if arguments.has(form)]
     if len(forms) != 1:
         raise Mistake("write one of --pgn, --csv, --jsonl and --sgf FOLDER")
-    (folder,) = words.places
+    (folder,) = arguments.places
     plan = read_plan(folder)
-    records = Records(plan, folder, rules_of(words, plan))
-    sgf_folder = words.last("--sgf", lambda _, place: place)
+    records = Records(plan, folder, rules_of(arguments, plan))
+    sgf_folder = arguments.last("--sgf", lambda _, place: place)
     if sgf_folder is not None:
         from ..report.sgf import write_records
 
         write_records(records, plan, sgf_folder)
-    elif words.has("--pgn"):
+    elif arguments.has("--pgn"):
         from ..report.pgn import as_pgn
 
         event = os.path.basename(os.path.abspath(folder))
@@ -37,7 +37,7 @@ def do_export(words: Words) -> int:
     else:
         from ..report.tables import as_csv, as_jsonl
 
-        lines = as_csv(records) if words.has("--csv") else as_jsonl(records)
+        lines = as_csv(records) if arguments.has("--csv") else as_jsonl(records)
         output.write_lines(output.STDOUT, lines)
     if records.without:
         count = f"{records.without} of {records.games.count} games"

@@ -2,20 +2,20 @@
 from __future__ import annotations
 
 from .. import output
-from ..config.arguments import Words
+from ..config.arguments import Arguments
 from ..config.plan_file import read_plan
 from ..model import State
 from ..output import Mistake
 from ..store import results
 
 
-def do_list(words: Words) -> int:
+def do_list(arguments: Arguments) -> int:
     """Prints the games of a plan, and returns the status."""
-    (folder,) = words.places
+    (folder,) = arguments.places
     plan = read_plan(folder)
     games = plan.games()
     names = iter(games)
-    if not words.has("--all"):
+    if not arguments.has("--all"):
         states = results.states_of(plan, folder)
         names = (
             games.name(game)
@@ -26,13 +26,13 @@ def do_list(words: Words) -> int:
     return 0
 
 
-def do_game(words: Words) -> int:
+def do_game(arguments: Arguments) -> int:
     """Plays a game, and returns the status."""
     from ..play.programs import find_twogtp
     from ..play.single import play_one
     from ..store.layout import make_folders
 
-    folder, name = words.places
+    folder, name = arguments.places
     plan = read_plan(folder)
     if plan.games().number(name) is None:
         raise Mistake(

@@ -1,17 +1,17 @@
 """The options that say what a game counts in which a side failed, of the tally and of exports."""
 from __future__ import annotations
 
-from ..config.arguments import Words
+from ..config.arguments import Arguments
 from ..model import Plan
 from ..output import Mistake
 from ..stats.endings import Rule, Rules
 
 
-def rules_of(words: Words, plan: Plan) -> Rules:
+def rules_of(arguments: Arguments, plan: Plan) -> Rules:
     """Returns the rules that the options ask for. A late side has that of an abandoned one, unless
     it has its own."""
-    abandoned = words.last("--abandoned", rule_of) or Rule.LOSES
-    late = words.last("--late", rule_of)
+    abandoned = arguments.last("--abandoned", rule_of) or Rule.LOSES
+    late = arguments.last("--late", rule_of)
     if late and plan.is_direct:
         raise Mistake(
             "which side was late is known only where `between` stands: leave out --late, and "

@@ -6,7 +6,7 @@ from typing import TYPE_CHECKING, NamedTuple
 
 from .. import output
 from ..cluster import share, time_left
-from ..config.arguments import OF_PLAY, Words, processors
+from ..config.arguments import OF_PLAY, Arguments, processors
 from ..config.changes import Folder, plan_for, warning_of
 from ..config.plan_file import read_plan, write_plan
 from ..config.values import clock, number, seconds
@@ -30,37 +30,38 @@ class Prepared(NamedTuple):
     warning: str
 
 
-def asked_plan(words: Words) -> tuple[Plan, bool]:
+def asked_plan(arguments: Arguments) -> tuple[Plan, bool]:
     """Returns the plan that the arguments ask for, and whether they have engines or options."""
     plan = Plan()
-    for option in words.options:
+    for option in arguments.options:
         if option.name == "--engine":
             (value,) = option.values
             name, is_named, command = value.partition("=")
             if not is_named:
                 raise Mistake(f"--engine needs NAME=CMD, and not '{value}'")
             plan.add_engine(name, command)
-    plan.gauntlet = words.last("--gauntlet", lambda _, name: name)
-    plan.options = words.after or []
-    plan.seeds, plan.limit = words.last("--seeds", number), words.last("--limit", number)
-    plan.move_limit = words.last("--move-limit", seconds)
-    plan.start_limit = words.last("--start-limit", seconds)
-    plan.clock, plan.margin = words.last("--clock", clock), words.last("--margin", seconds)
-    plan.is_direct = words.has("--direct")
+    plan.gauntlet = arguments.last("--gauntlet", lambda _, name: name)
+    plan.options = arguments.after or []
+    plan.seeds, plan.limit = arguments.last("--seeds", number), arguments.last("--limit", number)
+    plan.move_limit = arguments.last("--move-limit", seconds)
+    plan.start_limit = arguments.last("--start-limit", seconds)
+    plan.clock = arguments.last("--clock", clock)
+    plan.margin = arguments.last("--margin", seconds)
+    plan.is_direct = arguments.has("--direct")
     for left_out in TAKEN_BY_DIRECT:
-        if plan.is_direct and words.has(left_out):
+        if plan.is_direct and arguments.has(left_out):
             raise Mistake(f"{left_out} needs what --direct leaves out: give only one of the two")
-    return plan, bool(plan.engines) or words.after is not None
+    return plan, bool(plan.engines) or arguments.after is not None
 
 
-def prepare(words: Words) -> Prepared:
+def prepare(arguments: Arguments) -> Prepared:
     """Returns what is to be played by the folder and the arguments."""
-    asked, is_given = asked_plan(words)
-    openings = words.last("--openings", read_openings) or []
+    asked, is_given = asked_plan(arguments)
+    openings = arguments.last("--openings", read_openings) or []
     asked.openings = [opening.text() for opening in openings]
     for name, read in (("--jobs", number), ("--task", share), ("--time-left", time_left)):
-        words.last(name, read)
-    place = words.places[0]
+        arguments.last(name, read)
+    place = arguments.places[0]
     before = warning_of(read_plan(place)) if os.path.exists(f"{place}/plan") else ""
     folder = plan_for(asked, is_given, place)
     twogtp = find_twogtp()
@@ -89,15 +90,15 @@ def read_openings(_: str, place: str) -> list[Opening]:
     return read(place)
 
 
-def do_play(words: Words) -> int:
+def do_play(arguments: Arguments) -> int:
     """Plays a tournament, and returns the status."""
     from ..play.run import Run
     from ..play.scheduler import Play
 
-    prepared = prepare(words)
+    prepared = prepare(arguments)
     plan, folder = prepared.folder.plan, prepared.folder
-    task, left = words.last("--task", share), words.last("--time-left", time_left)
-    jobs = words.last("--jobs", number) or processors()
+    task, left = arguments.last("--task", share), arguments.last("--time-left", time_left)
+    jobs = arguments.last("--jobs", number) or processors()
     play = Play(Run(plan, folder.place, prepared.twogtp), plan, jobs, task, left)
     if folder.surplus:
         output.report(folder.surplus)
@@ -105,12 +106,12 @@ def do_play(words: Words) -> int:
     if status is not None:
         return status
     write(prepared)
-    return play.all(words.has("--again"))
+    return play.all(arguments.has("--again"))
 
 
-def do_plan(words: Words) -> int:
+def do_plan(arguments: Arguments) -> int:
     """Makes a plan, or adds to one, and returns the status."""
-    prepared = prepare(words)
+    prepared = prepare(arguments)
     if prepared.folder.surplus:
         raise Mistake(
             prepared.folder.surplus.replace(
@@ -118,7 +119,7 @@ def do_plan(words: Words) -> int:
             )
         )
     write(prepared)
-    not_kept = [name for name in OF_PLAY if words.has(name)]
+    not_kept = [name for name in OF_PLAY if arguments.has(name)]
     if not_kept:
         them = "them" if len(not_kept) > 1 else "it"
         output.report(

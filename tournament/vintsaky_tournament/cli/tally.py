@@ -6,7 +6,7 @@ import re
 from typing import Sequence
 
 from .. import output
-from ..config.arguments import Words
+from ..config.arguments import Arguments
 from ..config.plan_file import read_plan
 from ..model import Plan
 from ..output import Mistake
@@ -17,10 +17,10 @@ from .losses import rules_of
 STATUSES = {1: 0, 0: 3, None: 4}  # of a test, by the difference in Elo that is accepted
 
 
-def asked_of(words: Words, plan: Plan) -> Asked | None:
+def asked_of(arguments: Arguments, plan: Plan) -> Asked | None:
     """Returns the test that the options ask for, if they do."""
-    tested = words.last_of_two("--sprt", differences)
-    engines = words.last_of_two("--between", lambda _, names: names)
+    tested = arguments.last_of_two("--sprt", differences)
+    engines = arguments.last_of_two("--between", lambda _, names: names)
     playing = plan.games().sides[::2]  # each two that play each other
     example = f"--between {' '.join(playing[0])}"
     if engines and not tested:
@@ -58,28 +58,28 @@ def differences(name: str, values: Sequence[str]) -> tuple[float, float]:
     return low, high
 
 
-def is_out(name: str, value: str) -> bool:
+def is_left_out(name: str, value: str) -> bool:
     """Returns whether games that nobody won are to be left out, by the value of an option."""
     if value not in ("half", "out"):
         raise Mistake(f"{name} needs half or out after it, and not '{value}'")
     return value == "out"
 
 
-def main(arguments: Sequence[str]) -> int:
+def main(words: Sequence[str]) -> int:
     """Writes the tally of a folder, and returns the status."""
-    words = Words("tally", arguments)
-    if words.is_help:
+    arguments = Arguments("tally", words)
+    if arguments.is_help:
         from ..config.help import HELP
 
         output.write(output.STDOUT, HELP["tally"])
         return 0
     gc.disable()  # nothing here has cycles, and with many engines the search takes half the time
-    (folder,) = words.places
+    (folder,) = arguments.places
     plan = read_plan(folder)
-    asked, leave_out = asked_of(words, plan), words.last("--no-winner", is_out)
-    counts = Counts(plan, folder, rules_of(words, plan), bool(leave_out))
+    asked, leave_out = asked_of(arguments, plan), arguments.last("--no-winner", is_left_out)
+    counts = Counts(plan, folder, rules_of(arguments, plan), bool(leave_out))
     test = Test(counts.pairs, asked) if asked else None
-    if words.has("--json"):
+    if arguments.has("--json"):
         from ..report.as_json import json_of
 
         output.write(output.STDOUT, json_of(Summary(counts), test))

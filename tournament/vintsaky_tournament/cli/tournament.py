@@ -4,50 +4,50 @@ from __future__ import annotations
 from typing import TYPE_CHECKING, Sequence
 
 from .. import output
-from ..config.arguments import Words
+from ..config.arguments import Arguments
 from ..output import STDERR, STDOUT, Mistake
 
 if TYPE_CHECKING:
     from typing import Callable
 
 
-def play(words: Words) -> int:
+def play(arguments: Arguments) -> int:
     """Plays a tournament, and returns the status."""
     from .play import do_play
 
-    return do_play(words)
+    return do_play(arguments)
 
 
-def plan(words: Words) -> int:
+def plan(arguments: Arguments) -> int:
     """Makes a plan, or adds to one, and returns the status."""
     from .play import do_plan
 
-    return do_plan(words)
+    return do_plan(arguments)
 
 
-def list_games(words: Words) -> int:
+def list_games(arguments: Arguments) -> int:
     """Prints the games of a plan, and returns the status."""
     from .games import do_list
 
-    return do_list(words)
+    return do_list(arguments)
 
 
-def game(words: Words) -> int:
+def game(arguments: Arguments) -> int:
     """Plays a game, and returns the status."""
     from .games import do_game
 
-    return do_game(words)
+    return do_game(arguments)
 
 
-def export(words: Words) -> int:
+def export(arguments: Arguments) -> int:
     """Exports the results, and returns the status."""
     from .export import do_export
 
-    return do_export(words)
+    return do_export(arguments)
 
 
 # each imports what it needs alone, since modules are compiled at each start
-COMMANDS: dict[str, Callable[[Words], int]] = {
+COMMANDS: dict[str, Callable[[Arguments], int]] = {
     "play": play,
     "plan": plan,
     "list": list_games,
@@ -56,17 +56,17 @@ COMMANDS: dict[str, Callable[[Words], int]] = {
 }
 
 
-def main(arguments: Sequence[str]) -> int:
+def main(words: Sequence[str]) -> int:
     """Does what the arguments ask for, and returns the status."""
-    if not arguments or arguments[0] in ("-h", "--help"):
-        return show_help(None, STDOUT if arguments else STDERR, 0 if arguments else 2)
-    name = arguments[0]
+    if not words or words[0] in ("-h", "--help"):
+        return show_help(None, STDOUT if words else STDERR, 0 if words else 2)
+    name = words[0]
     if name not in COMMANDS:
         raise Mistake(
             f"there is no command '{name}': write tournament play, plan, list, game or export"
         )
-    words = Words(name, arguments[1:])
-    return show_help(name, STDOUT, 0) if words.is_help else COMMANDS[name](words)
+    arguments = Arguments(name, words[1:])
+    return show_help(name, STDOUT, 0) if arguments.is_help else COMMANDS[name](arguments)
 
 
 def show_help(name: str | None, descriptor: int, status: int) -> int:

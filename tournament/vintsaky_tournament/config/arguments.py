@@ -82,7 +82,7 @@ class Given(NamedTuple):
     values: list[str]
 
 
-class Words:
+class Arguments:
     """What was asked for: the places, such as FOLDER, the options in their order, and what follows
     --, if that is there."""
 

@@ -10,7 +10,7 @@ from .. import processes
 from ..output import Mistake
 
 HERE = os.path.dirname(os.path.dirname(os.path.dirname(os.path.realpath(__file__))))
-BESIDE = ("../bin", "../../bin")  # where it lies next to these scripts, in a clone, in an archive
+NEARBY = ("../bin", "../../bin")  # where it lies next to these scripts, in a clone, in an archive
 # signals that no twogtp inherits as ignored; not SIGXFSZ: a file that is too long is reported
 DEFAULT_SIGNALS = (signal.SIGTERM, signal.SIGINT, signal.SIGHUP, signal.SIGPIPE)
 
@@ -30,8 +30,8 @@ def find(name: str, folder: str = "") -> str | None:
 def find_twogtp() -> str:
     """Returns the place of twogtp: that of TWOGTP, the one next to these scripts, or the one in
     PATH."""
-    beside = [os.path.realpath(f"{HERE}/{folder}/twogtp") for folder in BESIDE]
-    default = next((place for place in beside if is_program(place)), "twogtp")
+    nearby = [os.path.realpath(f"{HERE}/{folder}/twogtp") for folder in NEARBY]
+    default = next((place for place in nearby if is_program(place)), "twogtp")
     name = os.environ.get("TWOGTP") or default
     place = find(name)
     if not place:

@@ -1,1 +1,1 @@
-"""What stands between a controller and an engine. No other package imports it."""
+"""Relays between a controller and an engine. No other package imports them."""

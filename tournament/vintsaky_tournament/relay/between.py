@@ -1,4 +1,4 @@
-"""Stands between twogtp and an engine of a game: starts the engine, and passes the bytes both ways.
+"""The relay between twogtp and an engine: starts the engine, and passes the bytes both ways.
 
 The file of the game has parts, separated by zero bytes: `notes FILE`, `folder FOLDER`, and `black
 WORD` for each word of the command of that colour. It may have `limit SECONDS`, for each answer

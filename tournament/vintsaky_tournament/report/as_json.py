@@ -7,7 +7,7 @@ from typing import Any
 
 from ..model import Side
 from ..stats import scores
-from ..stats.pairs import Found
+from ..stats.pairs import PairCounts
 from ..stats.sprt import Test
 from ..stats.summary import EngineRow, PairingRow, Row, Summary, without_result
 
@@ -72,7 +72,7 @@ def of_games(games: Row) -> dict[str, int]:
     }
 
 
-def of_pairs(found: Found) -> dict[str, Any]:
+def of_pairs(found: PairCounts) -> dict[str, Any]:
     """Returns the five counts of pairs, their score and the difference in Elo."""
     score, interval = found.score(), found.interval()
     return {

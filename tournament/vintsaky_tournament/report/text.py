@@ -8,7 +8,7 @@ from typing import Iterator, Sequence
 from ..model import Side, Way
 from ..stats import scores
 from ..stats.endings import Rule
-from ..stats.pairs import Found
+from ..stats.pairs import PairCounts
 from ..stats.scores import Cluster
 from ..stats.sprt import Test
 from ..stats.summary import EngineRow, PairingRow, Row, Summary, without_result
@@ -145,7 +145,7 @@ def won_of(games: Row) -> str:
 @lru_cache(maxsize=4096)  # of many engines with few seeds most are the same
 def of_score(every: tuple[int, ...], clusters: tuple[tuple[Cluster, int], ...]) -> str:
     """Returns the score of pairs in percent, and the difference in Elo, each with its interval."""
-    found = Found(every, dict(clusters))
+    found = PairCounts(every, dict(clusters))
     score, interval = found.score(), found.interval()
     if score is None or interval is None:
         return NO_PAIRS

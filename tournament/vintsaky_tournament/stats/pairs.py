@@ -89,11 +89,11 @@ class Pairs:
         """Returns the moves of the games with this number within a seed, by the seed."""
         return self.moves[number :: len(self.games.sides)]
 
-    def of_two(self, pairing: Pairing) -> Found:
+    def of_two(self, pairing: Pairing) -> PairCounts:
         """Returns the pairs of two engines."""
         first, second = self.scores_of(pairing.as_black), self.scores_of(pairing.as_white)
         counts = counts_of(zip(first, second))
-        return Found(counts, clusters_of(counts, first, second, self.repeats(pairing)))
+        return PairCounts(counts, clusters_of(counts, first, second, self.repeats(pairing)))
 
     def repeats(self, pairing: Pairing) -> dict[int, int]:
         """Returns the pairs of which a game is the same as one in an earlier pair that repeats none
@@ -140,7 +140,7 @@ class Pairs:
         return sorted(found)
 
 
-class Found:
+class PairCounts:
     """The pairs of two engines: how many have each outcome, and how many clusters there are of each
     kind. A pair is in one with the earlier pair that it repeats, and else alone."""
 
@@ -149,17 +149,17 @@ class Found:
     ) -> None:
         self.every, self.clusters = list(every), Counter(clusters or {})
 
-    def add(self, other: Found) -> None:
+    def add(self, other: PairCounts) -> None:
         """Adds other pairs."""
         self.every = [one + more for one, more in zip(self.every, other.every)]
         self.clusters.update(other.clusters)
 
-    def turned(self) -> Found:
+    def turned(self) -> PairCounts:
         """Returns the same pairs, as the other engine sees them."""
         clusters = {
             Cluster(size, 4 * size - won): count for (size, won), count in self.clusters.items()
         }
-        return Found(self.every[::-1], clusters)
+        return PairCounts(self.every[::-1], clusters)
 
     def score(self) -> float | None:
         """Returns the score; None where there is no pair."""

@@ -43,7 +43,7 @@ class Record(NamedTuple):
 FIELDS = Record._fields[:-2]
 
 
-class Noted(NamedTuple):
+class FromNotes(NamedTuple):
     """What the notes of a game say: the machine, and how long both sides thought."""
 
     host: str | None = None
@@ -72,7 +72,7 @@ class Records:
         seed, at = divmod(game, len(self.games.sides))
         (black, white), name = self.games.sides[at], self.games.name(game)
         ending, openings = self.endings.of(game, result).ending, self.plan.openings
-        noted = self.noted(name, result)
+        noted = self.from_notes(name, result)
         versions = self.versions_on(noted.host)
         return Record(
             game=name,
@@ -94,15 +94,15 @@ class Records:
             result=result,
         )
 
-    def noted(self, name: str, result: Result) -> Noted:
+    def from_notes(self, name: str, result: Result) -> FromNotes:
         """Returns what the notes of a game say, if they are of this result."""
         data = notes.bytes_for(self.folder, name, result.line)
         if data is None:
-            return Noted()
+            return FromNotes()
         text = data.decode("latin-1")
         host = text.partition("\n")[0].partition(" on ")[2]
         black, white = notes.Notes(text).thought
-        return Noted(host if is_host(host) else None, round(black, 3), round(white, 3))
+        return FromNotes(host if is_host(host) else None, round(black, 3), round(white, 3))
 
     def versions_on(self, host: str | None) -> dict[str, str | None]:
         """Returns the versions of the programs on a machine, as they were tried there."""

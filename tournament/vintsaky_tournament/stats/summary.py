@@ -9,7 +9,7 @@ from typing import Iterator, NamedTuple, Sequence
 from ..model import FORFEITS, SIDES, Ending, Plan, Side, State, Way
 from ..store import results
 from .endings import Endings, Rule, Rules
-from .pairs import Found, Pairs
+from .pairs import PairCounts, Pairs
 
 OTHERS_TO_LOOK_INTO = (Way.UNFIT, Way.ABANDONED, Way.LATE, Way.TIME)
 PREFIX = "tournament: "  # of the line of a log that says why a game has no result
@@ -20,10 +20,10 @@ class Counts:
     nobody won may be left out of the pairs, unless they are drawn."""
 
     def __init__(
-        self, plan: Plan, folder: str, rules: Rules = Rules(), is_out: bool = False
+        self, plan: Plan, folder: str, rules: Rules = Rules(), leave_out_undecided: bool = False
     ) -> None:
         self.plan, self.games, self.folder, self.rules = plan, plan.games(), folder, rules
-        self.out = set(Way) - {Way.DRAWN} if is_out else set(rules.ways(Rule.OUT))
+        self.out = set(Way) - {Way.DRAWN} if leave_out_undecided else set(rules.ways(Rule.OUT))
         self.states = bytearray(self.games.count)
         # of two engines with these colours: how often a game ended so
         self.endings: list[dict[Ending, int]] = [{} for _ in self.games.sides]
@@ -116,7 +116,7 @@ class EngineRow:
     """What an engine has against all others: its games, those of each colour, and its pairs."""
 
     def __init__(self, name: str) -> None:
-        self.name, self.games, self.pairs = name, Row(), Found()
+        self.name, self.games, self.pairs = name, Row(), PairCounts()
         self.by_side = (Row(), Row())
         self.opponents = 0
 
@@ -124,7 +124,7 @@ class EngineRow:
 class PairingRow:
     """What two engines have of each other, as the first one sees it."""
 
-    def __init__(self, first: str, second: str, pairs: Found) -> None:
+    def __init__(self, first: str, second: str, pairs: PairCounts) -> None:
         self.first, self.second, self.games, self.pairs = first, second, Row(), pairs
 
 
@@ -153,7 +153,7 @@ class Summary:
                 self.add(sides, ending, count)
         self.order = sorted(self.rows.values(), key=lambda row: -row.games.points)
 
-    def add_pairing(self, one: str, other: str, found: Found) -> None:
+    def add_pairing(self, one: str, other: str, found: PairCounts) -> None:
         """Adds the pairs of two engines, as the first one sees them."""
         self.pairings[one, other] = PairingRow(one, other, found)
         self.rows[one].pairs.add(found)

@@ -135,7 +135,7 @@ class Unreadable:
             output.report(f"files in {self.folder}/games that can't be read: {self.count}")
 
 
-class Found(NamedTuple):
+class GameFile(NamedTuple):
     """A game of a plan that has a file: its number, and its result; None where that is damaged or
     can't be read."""
 
@@ -145,7 +145,7 @@ class Found(NamedTuple):
 
 def of_all(
     plan: Plan, folder: str, states: bytearray | None = None, is_quiet: bool = False
-) -> Iterator[Found]:
+) -> Iterator[GameFile]:
     """Yields the games of the plan that have a file, except those with a result by these states."""
     games, rule, unreadable = plan.games(), Rule(plan), Unreadable(folder, is_quiet)
     try:
@@ -159,12 +159,12 @@ def of_all(
                 if number is None or states and states[number] in HAVE_RESULT:
                     continue
                 try:
-                    yield Found(number, rule.read(file.name, directory))
+                    yield GameFile(number, rule.read(file.name, directory))
                 except FileNotFoundError:
                     continue
                 except OSError as error:
                     unreadable.add(file.name, error)
-                    yield Found(number, None)
+                    yield GameFile(number, None)
     finally:
         os.close(directory)
     unreadable.end()
@@ -172,19 +172,19 @@ def of_all(
 
 def of_share(
     plan: Plan, folder: str, share: Share, states: bytearray, is_quiet: bool = False
-) -> Iterator[Found]:
+) -> Iterator[GameFile]:
     """Yields the same of a share of the games, in the plan's order, and looks at no others."""
     games, rule, unreadable = plan.games(), Rule(plan), Unreadable(folder, is_quiet)
     for number in share.of(games.count):
         if states[number] not in HAVE_RESULT:
             name = games.name(number)
             try:
-                yield Found(number, rule.read(f"{folder}/games/{name}"))
+                yield GameFile(number, rule.read(f"{folder}/games/{name}"))
             except FileNotFoundError:
                 continue
             except OSError as error:
                 unreadable.add(name, error)
-                yield Found(number, None)
+                yield GameFile(number, None)
     unreadable.end()
 
 
