@@ -12,7 +12,8 @@ BETWEEN = [sys.executable, "-S", "-E", str(SCRIPTS / "between"), "black"]  # as 
 
 
 def without_seconds(line: str) -> str:
-    """Returns a line of notes with S for its seconds."""
+    """Returns a line of notes with S for its seconds, and without those of processors."""
+    line = re.sub(r"( cpu \d+\.\d\d|; cpu \d+\.\d\d, \d+\.\d\d)(?=:|$)", "", line)
     return re.sub(r"(?<= )\d+\.\d{3}(?=[:,]* |[:,]*$)", "S", line)
 
 
@@ -25,7 +26,7 @@ def record_of(notes: List[str]) -> List[str]:
     """Returns the moves that the notes of a game have, without those that were taken back."""
     moves: List[str] = []
     for line in notes:
-        move = r"(\d+) (black|white) ([A-Z]\d+|pass|undone)( \d+\.\d{3}| opening)?"
+        move = r"(\d+) (black|white) ([A-Z]\d+|pass|undone)( \d+\.\d{3}( cpu \d+\.\d\d)?| opening)?"
         if found := re.fullmatch(move, line):
             number = int(found[1]) - 1
             moves[number:] = [] if found[3] == "undone" else [found[3]]

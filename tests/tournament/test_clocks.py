@@ -2,6 +2,7 @@
 from __future__ import annotations
 
 import json
+import re
 import subprocess
 import sys
 from typing import Dict, List
@@ -297,6 +298,63 @@ def test_loss_on_time_counts_as_one(lost_on_time: Runner) -> None:
     assert {'[Result "1-0"]', '[Termination "time forfeit"]'} < set(tags)
     assert lost_on_time.tournament("export", "all", "--sgf", "records").status == 0
     assert "RE[W+T]" in lost_on_time.files("records")["1_one_two.sgf"]
+
+
+# ---- the processor
+
+# It and a child of it count until the processor has worked 0.3 seconds for each, and the same
+# before they are asked for a move.
+WORKS = f"""\
+#!{sys.executable}
+import os, sys, time
+def work():
+    until = time.process_time() + 0.3
+    while time.process_time() < until:
+        pass
+work()
+for line in sys.stdin:
+    if "genmove" in line:
+        child = os.fork()
+        work()
+        if not child:
+            os._exit(0)
+        os.waitpid(child, 0)
+    print("= pass", end=chr(10) * 2, flush=True)
+"""
+
+
+@pytest.mark.parametrize("limit", ["clock", "move_limit"])
+def test_work_of_processors_is_noted(limit: str, runner: Runner) -> None:
+    value = {"clock": "absolute 1000", "move_limit": "1000"}[limit]
+    between = Between(runner, runner.script("works", WORKS), **{limit: value})
+    process = between.start()
+    for _ in range(2):
+        assert process.stdin
+        process.stdin.write("genmove b\n")
+        process.stdin.flush()
+        assert answer(process) == "= pass\n\n"
+    notes = [line.split(" ") for line in between.place.read_text().splitlines()]
+    moves = [words for words in notes if words[2:3] == ["pass"]]
+    assert [words[4] for words in moves] == ["cpu", "cpu"]
+    assert 0.58 <= float(moves[1][5]) < 0.88  # of two processes, and not of the start
+
+
+def test_work_of_processors_is_that_of_a_late_move_too(runner: Runner) -> None:
+    between = begin(runner, PLAIN, "hang", clock="absolute 600", move_limit="0.5")
+    talk(between, f"{BEGIN}, 4 genmove b")
+    note = r"1 black late \d+\.\d{3} cpu \d\.\d\d: 4 genmove b"
+    assert re.fullmatch(note, between.place.read_text().splitlines()[-1])
+
+
+def test_work_of_processors_in_a_game_is_added_up(lost_on_time: Runner) -> None:
+    notes = notes_of(lost_on_time, "1_one_two")
+    used = {
+        side: sum(
+            float(word) for word in re.findall(rf"{side} .* cpu (\d\.\d\d)", "\n".join(notes))
+        )
+        for side in ("black", "white")
+    }
+    assert notes[-2].endswith(f"; cpu {used['black']:.2f}, {used['white']:.2f}")
 
 
 # ---- whole games

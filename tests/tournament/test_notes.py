@@ -30,8 +30,10 @@ def write_notes(runner: Runner, game: str, verdict: str, *notes: str) -> None:
 # a note, and the seconds of thought that it adds: to Black's, and to White's
 THOUGHT: Dict[str, Tuple[float, float]] = {
     "2 white E5 0.5": (0, 0.5),
+    "2 white E5 0.5 cpu 0.25": (0, 0.5),
     "3 black failed 0.25": (0.25, 0),
     "5 black late 5.5: 12 genmove b": (5.5, 0),
+    "5 black out-of-time 5.5 cpu 0.25: 12 genmove b": (5.5, 0),
     "5 white waited 2.5: 12 genmove w": (0, 2.5),
     "5 black ended 1.5: 12 genmove b: exit status 3": (1.5, 0),
     "5 black late 5.5: 12 play black D4": (0, 0),

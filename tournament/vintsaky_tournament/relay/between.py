@@ -157,6 +157,19 @@ class Engine:
         os.close(from_engine)
         os.set_blocking(to_engine, False)
 
+    def processor_seconds(self) -> float:
+        """Returns how long processors have worked for it, and for what it started, as far as that
+        runs, or was waited for."""
+        ticks, left = 0, [self.number]
+        for process in left:
+            left += processes.children_of(process)
+            try:
+                with open(f"/proc/{process}/stat", "rb", buffering=0) as file:
+                    ticks += sum(map(int, file.read().rpartition(b")")[2].split()[11:15]))
+            except OSError:
+                pass
+        return ticks / os.sysconf("SC_CLK_TCK")
+
     def wait(self) -> int:
         """Waits for its end, and returns the status of waitpid."""
         return os.waitpid(self.number, 0)[1]
@@ -309,6 +322,8 @@ def play(game: Game) -> NoReturn:
         conversation.note(f"not started: {engine.failure}")
         report(game.colour, f"not started: {engine.failure}")
         end_as(engine.wait())
+    if game.move_limit is not None or conversation.timing:
+        conversation.processor_seconds = engine.processor_seconds
     relay = Relay(game, conversation, engine)
     if relay.run():
         end_late(relay)

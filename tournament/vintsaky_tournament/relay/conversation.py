@@ -36,7 +36,7 @@ def as_written(vertex: bytes) -> bytes:
 class Command:
     """A command that wasn't answered yet."""
 
-    __slots__ = ("text", "name", "since", "opening_move", "is_own", "is_noted")
+    __slots__ = ("text", "name", "since", "used", "opening_move", "is_own", "is_noted")
 
     def __init__(
         self, text: bytes, name: bytes, opening_move: bytes | None, is_own: bool = False
@@ -45,6 +45,7 @@ class Command:
         self.is_own = is_own  # whether twogtp didn't send it
         self.opening_move = opening_move  # which the engine is sent in place of a genmove
         self.since = time.monotonic()
+        self.used = 0.0  # what processors had worked for the engine by then, in seconds
         self.is_noted = name != b"genmove"  # whether a note says that it is waited for
 
     def change(self, moves: list[bytes]) -> None:
@@ -73,6 +74,8 @@ class Conversation:
     ) -> None:
         self.colour, self.opening, self.write_note = colour, opening, write_note
         self.timing = timing  # None without a clock
+        # what processors have worked for the engine, in seconds; None where that isn't noted
+        self.processor_seconds: Callable[[], float] | None = None
         self.limit, self.move_limit = limits  # of a genmove the second one; None for no limit
         self.began = time.monotonic()
         self.last_answer = self.began  # when the last answer ended
@@ -123,6 +126,8 @@ class Conversation:
             own = self.timing.commands_before(b"play" if opening_move else name, words)
         self.waiting += [Command(each, each.split()[0], None, is_own=True) for each in own]
         self.waiting.append(Command(text, name, opening_move))
+        if self.processor_seconds and name == b"genmove":
+            self.waiting[-1].used = self.processor_seconds()
         return b"".join([each + b"\n" for each in own]) + line
 
     def moves_to_come(self) -> list[bytes]:
@@ -197,7 +202,7 @@ class Conversation:
         if self.held is not None and command.opening_move:
             return self.end_opening_move(command.opening_move)
         if command.name == b"genmove" and not command.opening_move:
-            self.end_genmove(seconds, is_success)
+            self.end_genmove(command, seconds, is_success)
         elif is_success:
             self.end_other(command)
         elif self.answer[:1] == FAILED and self.plays_opening(command):
@@ -218,13 +223,14 @@ class Conversation:
         command.change(moves)
         return len(moves) > len(self.moves) and moves[-1] == self.next_of_opening(self.moves)
 
-    def end_genmove(self, seconds: float, is_success: bool) -> None:
+    def end_genmove(self, command: Command, seconds: float, is_success: bool) -> None:
         """Notes the answer to a genmove."""
         words = self.answer[1:].split()
         vertex = b" ".join(words[1:] if self.answer[1:2].isdigit() else words).upper()
         is_vertex = is_success and vertex.isalnum() and len(vertex) <= len(RESIGN)
         failure = "no-vertex" if is_success else "failed"
-        self.note(f"{as_written(vertex).decode() if is_vertex else failure} {seconds:.3f}")
+        event = as_written(vertex).decode() if is_vertex else failure
+        self.note(f"{event} {seconds:.3f}{self.processor_note(command)}")
         if self.timing:
             self.timing.charge(seconds, is_move=is_vertex)
         if is_vertex and vertex != RESIGN:
@@ -238,6 +244,12 @@ class Conversation:
             self.note("undone")
 
     # ---- time
+
+    def processor_note(self, command: Command) -> str:
+        """Returns what a note says of the processor in a genmove; nothing of other commands."""
+        if not self.processor_seconds or command.name != b"genmove" or command.opening_move:
+            return ""
+        return f" cpu {max(0.0, self.processor_seconds() - command.used):.2f}"
 
     def asked_at(self, command: Command) -> float:
         """Returns when the time of a command's answer began: at the command, or the end of the
@@ -286,4 +298,5 @@ class Conversation:
         command = self.waiting[0] if self.waiting else None
         seconds = time.monotonic() - self.asked_at(command) if command else 0
         text = command.text[:ANSWER_LOOKED_AT].decode("latin-1") if command else "nothing was asked"
-        self.note(f"{event} {seconds:.3f}: {text}{ending and ': '}{ending}")
+        used = self.processor_note(command) if command and event in ("late", "out-of-time") else ""
+        self.note(f"{event} {seconds:.3f}{used}: {text}{ending and ': '}{ending}")

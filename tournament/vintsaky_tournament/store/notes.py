@@ -6,6 +6,7 @@ of the next move and the colour:
     0 black started 0.021               the seconds to the first answer
     1 black D4 opening                  a move of the opening
     2 white E5 0.512                    a move, or `resign`, and the seconds that it took
+    2 white E5 0.512 cpu 0.49           and what processors worked, with a clock or a move-limit
     2 white undone                      it was refused, and taken back
     2 white failed 0.004                the genmove failed, or its answer is `no-vertex`
     3 black thinks                      the genmove isn't answered yet
@@ -47,6 +48,7 @@ class Notes:
         self.late = [False, False]  # or out of time
         self.ignored = [0, 0]  # restarts that started nothing, since the engine was late before
         self.thought = [0.0, 0.0]  # seconds
+        self.processor: list[float] | None = None  # the same of processors, where that is noted
         self.last_failure = ["", ""]  # how the last start ended of those that ended too early
         self.awaited: Awaited | None = None  # at the end
         self.result = ""  # the line of the result, if there was one
@@ -62,7 +64,11 @@ class Notes:
         event, rest = words[2], " ".join(words[3:])
         if event in UNANSWERED:
             self.last_failure[side] = f"{event} {rest}"
-        if len(words) == 4 and event != "started" or " genmove " in rest:
+        has_processor = words[4:5] == ["cpu"]
+        if has_processor:
+            self.processor = self.processor or [0.0, 0.0]
+            self.processor[side] += seconds_of("".join(words[5:6]))
+        if len(words) == 4 and event != "started" or " genmove " in rest or has_processor:
             self.thought[side] += seconds_of(words[3])
         self.started[side] = self.started[side] or event == "started"
         self.late[side] = self.late[side] or event in TOO_LATE
@@ -70,10 +76,11 @@ class Notes:
         self.awaited = Awaited(side, rest) if event in ("waited", "thinks") else None
 
     def times(self) -> str:
-        """Returns how long both sides thought."""
-        return ", ".join(
-            f"{colour} {seconds:.3f}" for colour, seconds in zip(COLOURS, self.thought)
-        )
+        """Returns how long both sides thought, and processors for them, where that is noted."""
+        (black, white), used = self.thought, ""
+        if self.processor:
+            used = "; cpu " + ", ".join(f"{seconds:.2f}" for seconds in self.processor)
+        return f"black {black:.3f}, white {white:.3f}{used}"
 
     def failure(self, side: Side) -> str:
         """Returns how the last start of a side ended, or how long it was waited for."""
