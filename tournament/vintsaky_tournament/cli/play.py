@@ -47,11 +47,21 @@ def asked_plan(arguments: Arguments) -> tuple[Plan, bool]:
     plan.start_limit = arguments.last("--start-limit", seconds)
     plan.clock = arguments.last("--clock", clock)
     plan.margin = arguments.last("--margin", seconds)
-    plan.is_direct = arguments.has("--direct")
+    plan.is_direct, plan.folder = arguments.has("--direct"), arguments.directory
     for left_out in TAKEN_BY_DIRECT:
         if plan.is_direct and arguments.has(left_out):
             raise Mistake(f"{left_out} needs what --direct leaves out: give only one of the two")
     return plan, bool(plan.engines) or arguments.after is not None
+
+
+def with_file(arguments: Arguments) -> Arguments:
+    """Returns the arguments, with those of a file where that is named in place of a directory."""
+    (place,) = arguments.places
+    if not place.endswith(".toml") or os.path.isdir(place):
+        return arguments
+    from ..config.toml_file import with_file_of  # which isn't needed elsewhere
+
+    return with_file_of(arguments)
 
 
 def prepare(arguments: Arguments) -> Prepared:
@@ -95,6 +105,7 @@ def do_play(arguments: Arguments) -> int:
     from ..play.run import Run
     from ..play.scheduler import Play
 
+    arguments = with_file(arguments)
     prepared = prepare(arguments)
     plan, folder = prepared.folder.plan, prepared.folder
     task, left = arguments.last("--task", share), arguments.last("--time-left", time_left)
@@ -111,7 +122,7 @@ def do_play(arguments: Arguments) -> int:
 
 def do_plan(arguments: Arguments) -> int:
     """Makes a plan, or adds to one, and returns the status."""
-    prepared = prepare(arguments)
+    prepared = prepare(with_file(arguments))
     if prepared.folder.surplus:
         raise Mistake(
             prepared.folder.surplus.replace(

@@ -93,6 +93,7 @@ class Arguments:
         self.places: list[str] = []
         self.options: list[Given] = []
         self.after: list[str] | None = None
+        self.directory: str | None = None  # of a file with a plan, in which engines start
         self.is_help = False
         left = iter(words)
         for word in left:

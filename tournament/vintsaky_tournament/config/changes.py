@@ -44,7 +44,7 @@ def plan_for(asked: Plan, is_given: bool, place: str) -> Folder:
             TWO_ENGINES if asked.engines else f"there is no {place}/plan, so {TWO_ENGINES}"
         )
     else:
-        asked.folder = os.getcwd()
+        asked.folder = asked.folder or os.getcwd()
         asked.start_limit = asked.start_limit or (None if asked.is_direct else START_LIMIT)
         folder = Folder(place, asked, None, list(asked.engines))
     plan = folder.plan

@@ -5,6 +5,7 @@ HEAD = """\
 usage: tournament play FOLDER --engine NAME=CMD --engine NAME=CMD ..
            [--seeds N] [--limit SECONDS] [--jobs N] .. [-- OPTION ..]
        tournament play FOLDER [--again]     goes on with the plan in FOLDER
+       tournament play FILE.toml            plays the plan of a file
        tournament plan FOLDER --engine ..   writes FOLDER/plan, plays nothing
        tournament list FOLDER [--all]       lists games without a result, or all
        tournament game FOLDER GAME          plays one game
@@ -42,6 +43,27 @@ PLAN = """\
                      engines, so commands have no quotes. There are no limits of
                      an answer, no clocks and no openings, and no notes of the
                      moves
+"""
+KEYS = """\
+A plan may also be a file, FILE.toml in place of FOLDER: example.toml next to
+these scripts is one to copy. It has these keys:
+
+  seeds, size ..     the options above and those of twogtp, without dashes, such
+                     as seeds = 10, gauntlet = "new", direct = true, komi = 7.5;
+                     also jobs
+  folder             the directory of the tournament [the file's name without
+                     .toml]
+  options            words for the end of the command of each engine
+  [engines.NAME]     an engine, with the keys that follow; quote a NAME with a
+                     dot or a plus
+  command            its command, as CMD, or a list of words
+  like               another engine, whose command and environment it has
+  options            words for the end of its command alone
+  environment        variables, such as { OMP_NUM_THREADS = 2 }
+
+Engines start in the directory of the file, and paths are seen from there. An
+option that is given besides counts in place of the key. Before version 3.11
+Python needs the package tomli to read such a file.
 """
 PLAY = """\
   --jobs N           play N games at once; a plan doesn't keep N [the number of
@@ -98,6 +120,7 @@ usage: tournament play FOLDER --engine NAME=CMD --engine NAME=CMD ..
            [--openings FILE] [--direct] [--jobs N] [--again] [--task K/T]
            [--time-left TIME] [-- OPTION ..]
        tournament play FOLDER ..            if FOLDER has a plan
+       tournament play FILE.toml ..         tournament plan --help has its keys
 
 Plays all games of FOLDER that have no result, seed by seed; a damaged result
 counts as none. The same command goes on where it was stopped. If FOLDER has a
@@ -121,12 +144,14 @@ usage: tournament plan FOLDER --engine NAME=CMD --engine NAME=CMD ..
            [--seeds N] [--limit SECONDS] [--move-limit SECONDS]
            [--start-limit SECONDS] [--clock CLOCK] [--margin SECONDS]
            [--openings FILE] [--direct] [-- OPTION ..]
+       tournament plan FILE.toml ..
 
 Makes FOLDER and FOLDER/plan, plays nothing, and tries no engine. The arguments
 are those of tournament play. If FOLDER has a plan, you can give it more seeds,
 more engines after the others, or another limit.
 """,
             PLAN + OPTION,
+            KEYS,
             """\
 status: 0  FOLDER/plan is as the arguments say
         1  FOLDER/plan can't be written
