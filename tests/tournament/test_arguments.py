@@ -39,7 +39,10 @@ MISTAKES = {
     "game all 9_one_two": f"all/plan has no game '9_one_two': {NO_GAME}",
     "game all 1_one_one": f"all/plan has no game '1_one_one': {NO_GAME}",
     "game all 01_one_two": f"all/plan has no game '01_one_two': {NO_GAME}",
-    "paly x": "there is no command 'paly': write tournament play, plan, list, game or export",
+    "paly x": (
+        "there is no command 'paly': write tournament play, plan, list, game, export or verify"
+    ),
+    "verify": "FOLDER is missing: write tournament verify FOLDER",
     "list x": "there is no x/plan: tournament plan makes it",
     "list all more": "'more' is one argument too many: write tournament list FOLDER",
     "list all --al": "list has no option --al: is it --all?",
@@ -285,6 +288,7 @@ FORMS = ["--pgn", "--csv", "--jsonl", "--sgf"]
         ("tournament list", ["--all"], ["0", "1", "2", "141"]),
         ("tournament game", [], OF_GAMES),
         ("tournament export", [*FORMS, *OF_LOSSES], ["0", "1", "2", "141"]),
+        ("tournament verify", [], ["0", "1", "2", "141"]),
         ("tally", OF_TALLY, ["0", "1", "2", "3", "4", "141"]),
     ],
 )

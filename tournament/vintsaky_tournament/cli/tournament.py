@@ -46,6 +46,13 @@ def export(arguments: Arguments) -> int:
     return do_export(arguments)
 
 
+def verify(arguments: Arguments) -> int:
+    """Replays all games, and returns the status."""
+    from .verify import do_verify
+
+    return do_verify(arguments)
+
+
 # each imports what it needs alone, since modules are compiled at each start
 COMMANDS: dict[str, Callable[[Arguments], int]] = {
     "play": play,
@@ -53,6 +60,7 @@ COMMANDS: dict[str, Callable[[Arguments], int]] = {
     "list": list_games,
     "game": game,
     "export": export,
+    "verify": verify,
 }
 
 
@@ -62,8 +70,9 @@ def main(words: Sequence[str]) -> int:
         return show_help(None, STDOUT if words else STDERR, 0 if words else 2)
     name = words[0]
     if name not in COMMANDS:
+        *others, last = COMMANDS
         raise Mistake(
-            f"there is no command '{name}': write tournament play, plan, list, game or export"
+            f"there is no command '{name}': write tournament {', '.join(others)} or {last}"
         )
     arguments = Arguments(name, words[1:])
     return show_help(name, STDOUT, 0) if arguments.is_help else COMMANDS[name](arguments)

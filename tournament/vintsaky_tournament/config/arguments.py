@@ -62,6 +62,7 @@ OPTIONS: Mapping[str, Options] = {
     "list": {"--all": None},
     "game": {},
     "export": OF_EXPORT,
+    "verify": {},
     "tally": OF_TALLY,
 }
 # of twogtp: those with a value, with an example, and the others

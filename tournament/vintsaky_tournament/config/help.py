@@ -10,6 +10,7 @@ usage: tournament play FOLDER --engine NAME=CMD --engine NAME=CMD ..
        tournament list FOLDER [--all]       lists games without a result, or all
        tournament game FOLDER GAME          plays one game
        tournament export FOLDER --csv       exports results for other programs
+       tournament verify FOLDER             replays each game by gtp_engine
        tournament COMMAND --help            explains one command
 """
 PLAN = """\
@@ -209,6 +210,21 @@ file in FOLDER/games does.
 status: 0  the games that have a result are written
         1  something can't be read or written; no file of --sgf is left
         2  usage error, or RECORDS isn't empty
+        141  nobody reads what it prints
+""",
+    "verify": """\
+usage: tournament verify FOLDER
+
+Replays each game of FOLDER that has a result by gtp_engine, the one next to
+these scripts or in PATH, and compares moves, score and winner with the line in
+FOLDER/games: each move has to be legal under simple ko, two passes end the game
+with the score of the board, and the side to move has resigned or forfeited.
+Prints a line for each game in which something differs, or whose file is
+damaged, and how many there are.
+
+status: 0  no result differs, and none is damaged
+        1  some do, or something can't be read or written
+        2  usage error
         141  nobody reads what it prints
 """,
     "tally": """\

@@ -30,13 +30,17 @@ def find(name: str, folder: str = "") -> str | None:
 def find_twogtp() -> str:
     """Returns the place of twogtp: that of TWOGTP, the one next to these scripts, or the one in
     PATH."""
-    nearby = [os.path.realpath(f"{HERE}/{folder}/twogtp") for folder in NEARBY]
-    default = next((place for place in nearby if is_program(place)), "twogtp")
-    name = os.environ.get("TWOGTP") or default
+    name = os.environ.get("TWOGTP") or nearby_or_in_path("twogtp")
     place = find(name)
     if not place:
         raise Mistake(f"there is no {name}: set TWOGTP to its path")
     return os.path.abspath(place)
+
+
+def nearby_or_in_path(name: str) -> str:
+    """Returns the place of a program next to these scripts; its name where none is there."""
+    nearby = [os.path.realpath(f"{HERE}/{folder}/{name}") for folder in NEARBY]
+    return next((place for place in nearby if is_program(place)), name)
 
 
 def start(command: list[str], folder: str, result: int, log: int) -> tuple[int, str]:

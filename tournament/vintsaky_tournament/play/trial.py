@@ -57,6 +57,10 @@ class Late(Failed):
     """The same, where no answer was complete in time."""
 
 
+class Refusal(Failed):
+    """The same, where a command was refused."""
+
+
 class Asked:
     """An engine that was started, and is asked one command after the other."""
 
@@ -116,7 +120,7 @@ class Asked:
         self.judge_status(command, answer)
         self.has_answered = True
         if head[:1] == b"?":
-            raise Failed(f"it refuses '{command}': {said!r}")
+            raise Refusal(f"it refuses '{command}': {said!r}")
         if head[1:].split(b"\n")[0].lstrip(b"0") != number:
             asked = f"{number.decode()} {command}"
             raise Failed(f"its answer to '{asked}' has another number: {said!r}")

@@ -1,0 +1,1 @@
+"""What judges games that were played: a replay of each by an engine."""
