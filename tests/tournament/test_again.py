@@ -369,13 +369,14 @@ def test_link_to_a_directory_is_replaced(lost: Runner) -> None:
     assert place.is_file() and not place.is_symlink()
 
 
-@pytest.mark.skipif(os.geteuid() == 0, reason="root may write in each directory")
 def test_directory_of_results_that_cannot_be_written(lost: Runner) -> None:
     place = lost.folder / f"all/games/{GAME}"
     place.unlink()
     place.symlink_to(GAME)
     place.parent.chmod(0o555)
-    done = lost.tournament("game", "all", GAME)
+    # root may write there, unless it lacks this capability
+    limited = ["setpriv", "--bounding-set=-dac_override"] if os.geteuid() == 0 else []
+    done = lost.run(*limited, "tournament", "game", "all", GAME)
     place.parent.chmod(0o755)
     why = "can't be read, nor be replaced: Too many levels of symbolic links"
     assert done == (1, "", f"tournament: {GAME}: no result: {place} {why}\n")
