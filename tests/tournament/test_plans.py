@@ -139,8 +139,13 @@ def test_line_that_is_not_known_is_spelled(runner: Runner) -> None:
     runner.tournament("plan", "all", *TWO)
     with open(runner.folder / "all/plan", "ab") as plan:
         plan.write(b"\x1b[2Jgo\tto\x00 \xc3\xa9\xff\xc2\x9bx\x7f\n")
-    line = "all/plan has a line that isn't known: \\x1b[2Jgo\tto\\x00 \xe9\\xff\\x9bx\\x7f\n"
-    assert runner.tournament("list", "all") == (2, "", f"tournament: {line}")
+    errors = runner.folder / "errors"
+    with open(errors, "wb") as file:
+        assert runner.tournament("list", "all", stderr=file).status == 2
+    # control characters are, and bytes that are no text stay as they are
+    line = b"\\x1b[2Jgo\tto\\x00 \xc3\xa9\xff\\x9bx\\x7f\n"
+    wanted = b"tournament: all/plan has a line that isn't known: " + line
+    assert errors.read_bytes() == wanted
 
 
 # ---- plans that people write
