@@ -136,11 +136,17 @@ def test_engines_without_the_seed_and_seeds_with_the_same_opening(
 
 def test_games_that_repeat_others(runner: Runner) -> None:
     words = engines(one="gtp_engine", two="gtp_engine --ko positional")
-    options = ["--seeds", "3", "--", "--size", "5", "--komi", "0.5"]
+    options = ["--seeds", "4", "--", "--size", "5", "--komi", "0.5"]
     done = runner.tournament("play", "all", *words, *options)
     assert done[::2] == (0, warning("one and two"))
+    (runner.folder / "all/games/4_two_one").unlink()
     tally = runner.tally("all").output
-    assert "  1_one_two: 2_one_two and 1 other\n  1_two_one: 2_two_one and 1 other\n" in tally
+    head = (
+        "the same, move by move, as an earlier game of the same engines, colours and opening,"
+        " which count once in the intervals: 5\n"
+    )
+    others = "  1_one_two: 2_one_two and 2 others\n  1_two_one: 2_two_one and 1 other\n"
+    assert head + others in tally
     (pair,) = json.loads(runner.tally("all", "--json").output)["pairs"]
     assert (pair["pairs_in_interval"], pair["interval"]) == (1, [0, 1])
 
