@@ -2,7 +2,9 @@
 from __future__ import annotations
 
 import re
-from subprocess import DEVNULL
+from subprocess import DEVNULL, TimeoutExpired
+
+import pytest
 
 from .misbehaving import STUBBORN
 from .runner import Runner, engines
@@ -21,7 +23,8 @@ def test_without_k_it_is_waited_for(runner: Runner) -> None:
     text = "trap 'touch asked' TERM\nwhile :; do sleep 0.1; done"
     process = runner.start(*MATCH, f"timeout {START} {runner.script('ignores', text)}")
     runner.wait_until((runner.folder / "asked").exists)
-    assert process.poll() is None
+    with pytest.raises(TimeoutExpired):
+        process.wait(2)
 
 
 def test_timeout_of_twogtp_leaves_an_engine_that_ignores_term(runner: Runner) -> None:

@@ -38,10 +38,10 @@ def test_one_process_is_killed(command: List[str], name: str, runner: Runner) ->
     process = runner.start("tournament", *command, **UNREAD)
     runner.wait_for(*RELAYS)
     runner.wait_until(lambda: len(runner.named("stubborn")) >= 4)
-    first = set(runner.named("stubborn"))
+    first = {*runner.named("stubborn"), *runner.named("timeout")}
     (killed,) = runner.named(name)
     kill(killed)
-    runner.wait_until(lambda: not first & set(runner.named("stubborn")))
+    runner.wait_until(lambda: not first & {it.pid for it in runner.processes()})
     process.terminate()
     assert runner.is_idle()
 

@@ -75,7 +75,7 @@ def test_engines_that_can_only_be_killed(runner: Runner) -> None:
     runner.wait_until(lambda: len(runner.named("stubborn")) == 16)
     process.terminate()
     assert runner.finish(process).status == 143
-    assert runner.is_idle()
+    assert runner.processes() == []
 
 
 # It leaves a process in a session of its own, and notes which of those before are left.
