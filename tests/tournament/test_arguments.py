@@ -272,7 +272,7 @@ def test_options_that_a_plan_does_not_keep(
 
 OF_PLAN = ["--engine", "--seeds", "--gauntlet", "--limit", "--move-limit", "--start-limit"]
 OF_PLAN += ["--clock", "--margin", "--openings", "--direct"]
-OF_PLAY = [*OF_PLAN, "--jobs", "--again", "--task", "--time-left"]
+OF_PLAY = [*OF_PLAN, "--jobs", "--again", "--task", "--time-left", "--dry-run"]
 OF_LOSSES = ["--abandoned"] * 3 + ["--late"]
 OF_TALLY = [*OF_LOSSES, "--no-winner", "--no-winner", "--sprt", "--between", "--json"]
 OF_GAMES = ["0", "1", "2", "69", "130, 143", "141"]
@@ -284,7 +284,7 @@ FORMS = ["--pgn", "--csv", "--jsonl", "--sgf"]
     [
         ("tournament", OF_PLAY, OF_GAMES),
         ("tournament play", OF_PLAY, OF_GAMES),
-        ("tournament plan", OF_PLAN, ["0", "1", "2"]),
+        ("tournament plan", [*OF_PLAN, "--dry-run"], ["0", "1", "2"]),
         ("tournament list", ["--all"], ["0", "1", "2", "141"]),
         ("tournament game", [], OF_GAMES),
         ("tournament export", [*FORMS, *OF_LOSSES], ["0", "1", "2", "141"]),

@@ -16,6 +16,7 @@ from ..play.programs import find_twogtp, try_options
 from ..store.layout import make_folders
 
 if TYPE_CHECKING:
+    from ..cluster import Share
     from ..config.openings import Opening
 
 # what it leaves out
@@ -110,14 +111,25 @@ def do_play(arguments: Arguments) -> int:
     plan, folder = prepared.folder.plan, prepared.folder
     task, left = arguments.last("--task", share), arguments.last("--time-left", time_left)
     jobs = arguments.last("--jobs", number) or processors()
-    play = Play(Run(plan, folder.place, prepared.twogtp), plan, jobs, task, left)
     if folder.surplus:
         output.report(folder.surplus)
+    if arguments.has("--dry-run"):
+        return dry_run(prepared, task, arguments.has("--again"))
+    play = Play(Run(plan, folder.place, prepared.twogtp), plan, jobs, task, left)
     status = play.try_added(folder)
     if status is not None:
         return status
     write(prepared)
     return play.all(arguments.has("--again"))
+
+
+def dry_run(prepared: Prepared, task: Share | None, again: bool) -> int:
+    """Prints what a run would play, and returns the status."""
+    from .dry_run import show
+
+    if prepared.warning:
+        output.report(prepared.warning)
+    return show(prepared.folder.plan, prepared.folder.place, prepared.twogtp, task, again)
 
 
 def do_plan(arguments: Arguments) -> int:
@@ -129,6 +141,8 @@ def do_plan(arguments: Arguments) -> int:
                 "all of it is played", "a plan may get more, but not less"
             )
         )
+    if arguments.has("--dry-run"):
+        return dry_run(prepared, None, False)
     write(prepared)
     not_kept = [name for name in OF_PLAY if arguments.has(name)]
     if not_kept:

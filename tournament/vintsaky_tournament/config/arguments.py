@@ -25,6 +25,7 @@ OF_PLAY: Options = {  # which no plan keeps
     "--again": None,
     "--task": Option("K/T", "--task 3/100"),
     "--time-left": Option("a time", "--time-left 30:00"),
+    "--dry-run": None,
 }
 OF_PLAN: Options = {
     "--engine": Option("NAME=CMD", QUOTED),

@@ -75,6 +75,11 @@ PLAY = """\
   --time-left TIME   begin no game that doesn't fit into this time, written as
                      squeue prints it: 1-00:30:00 or 30:00; or in seconds, as 90
 """
+DRY_RUN = """\
+  --dry-run          write and play nothing; print the games without a result,
+                     and a command of twogtp that plays the first one by hand,
+                     without limits of an answer, clock and opening
+"""
 OPTION = """\
   -- OPTION ..       options of twogtp, such as --size 9 --komi 7.5, except
                      --games; twogtp --help has them
@@ -110,7 +115,7 @@ LOSSES = """\
                      [as --abandoned says]
 """
 HELP: dict[str | None, str] = {
-    None: "\n".join([HEAD, PLAN + PLAY + OPTION, FILES, STATUS]),
+    None: "\n".join([HEAD, PLAN + PLAY + DRY_RUN + OPTION, FILES, STATUS]),
     "play": "\n".join(
         [
             """\
@@ -119,7 +124,7 @@ usage: tournament play FOLDER --engine NAME=CMD --engine NAME=CMD ..
            [--seeds N] [--limit SECONDS] [--move-limit SECONDS]
            [--start-limit SECONDS] [--clock CLOCK] [--margin SECONDS]
            [--openings FILE] [--direct] [--jobs N] [--again] [--task K/T]
-           [--time-left TIME] [-- OPTION ..]
+           [--time-left TIME] [--dry-run] [-- OPTION ..]
        tournament play FOLDER ..            if FOLDER has a plan
        tournament play FILE.toml ..         tournament plan --help has its keys
 
@@ -132,7 +137,7 @@ command, the whole plan is played. New engines are added to a plan only if each
 of them can be started on this machine. Each minute, and in a terminal each ten
 seconds, a line on standard error shows the progress.
 """,
-            PLAN + PLAY + OPTION,
+            PLAN + PLAY + DRY_RUN + OPTION,
             FILES,
             STATUS,
         ]
@@ -144,14 +149,14 @@ usage: tournament plan FOLDER --engine NAME=CMD --engine NAME=CMD ..
            [--gauntlet NAME]
            [--seeds N] [--limit SECONDS] [--move-limit SECONDS]
            [--start-limit SECONDS] [--clock CLOCK] [--margin SECONDS]
-           [--openings FILE] [--direct] [-- OPTION ..]
+           [--openings FILE] [--direct] [--dry-run] [-- OPTION ..]
        tournament plan FILE.toml ..
 
 Makes FOLDER and FOLDER/plan, plays nothing, and tries no engine. The arguments
 are those of tournament play. If FOLDER has a plan, you can give it more seeds,
 more engines after the others, or another limit.
 """,
-            PLAN + OPTION,
+            PLAN + DRY_RUN + OPTION,
             KEYS,
             """\
 status: 0  FOLDER/plan is as the arguments say

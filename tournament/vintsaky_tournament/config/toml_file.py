@@ -20,7 +20,7 @@ from .arguments import OF_PLAN, OF_PLAY, OF_TWOGTP, Arguments, Option
 ENDING = ".toml"
 Table = Mapping[str, Any]
 Join = Callable[[str, Sequence[str]], str]  # of the words that a key has
-OF_MOMENT = ("again", "task", "time-left")  # options that no file has
+OF_MOMENT = ("again", "task", "time-left", "dry-run")  # options that no file has
 OF_ENGINE = ("command", "like", "options", "environment")
 READERS = ("tomllib", "tomli")  # the former from Python 3.11 on
 FLAGS_OF_TWOGTP = ("--show",)
