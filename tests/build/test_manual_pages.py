@@ -38,6 +38,15 @@ ENGINE_VALUES = {
     "fault": ["none", "stop:N", "cut:N:K", "junk:N", "flood:N"],
 }
 
+# What the engine writes on standard error, by its statuses.
+ENGINE_MESSAGES = {
+    "0": [],
+    "2": ["bad book", "bad fault", "bad argument"],
+    "3": ["read fault", "write fault", "out of memory", "too many reads"]
+    + ["a standard stream is closed, and /dev/null can't be opened"],
+    "4": [],
+}
+
 
 class Option(NamedTuple):
     """An option: its name, whether it takes a value, its default, and what else is said of it."""
@@ -161,6 +170,17 @@ def test_statuses_are_those_of_help(program: str, help_text: str) -> None:
     assert {number: letters(plain(words)) for number, words in named.items()} == {
         number: letters(words) for number, words in rows
     }
+
+
+@pytest.mark.parametrize("program", ["gtp_engine"])
+def test_statuses_of_the_engine_are_those_of_help(program: str, help_text: str) -> None:
+    # with more messages than --help has room for
+    rows = re.findall(r"^  (\d)  ", help_text.partition("\nStatus:\n")[2], re.MULTILINE)
+    named = items(section(PAGES[program], "EXIT STATUS"))
+    assert list(named) == rows == list(ENGINE_MESSAGES)
+    for number, messages in ENGINE_MESSAGES.items():
+        words = plain(named[number])
+        assert [message for message in messages if message not in words] == []
 
 
 @pytest.mark.parametrize("program", ["twogtp"])
