@@ -39,7 +39,7 @@ ENGINE_VALUES = {
 }
 
 # What the engine writes on standard error, by its statuses.
-ENGINE_MESSAGES = {
+ENGINE_MESSAGES: Dict[str, List[str]] = {
     "0": [],
     "2": ["bad book", "bad fault", "bad argument"],
     "3": ["read fault", "write fault", "out of memory", "too many reads"]
