@@ -9,7 +9,7 @@ from __future__ import annotations
 
 import os
 import re
-from typing import TYPE_CHECKING, Iterator, NamedTuple
+from typing import TYPE_CHECKING, Iterator
 
 from .. import output
 from ..config.setup import Setup
@@ -45,10 +45,6 @@ class Rule:
         move = f"(?:[{COLUMNS[:size]}](?:{rows(size)})|pass)"
         self.whole = re.compile(f"{LINE}\n((?:{move}(?: {move})*)?)\n")
 
-    def allows(self, verdict: str) -> bool:
-        """Returns whether a game of the plan may end so."""
-        return verdict in self.verdicts or OF_SERVER.fullmatch(verdict) is not None
-
     def parse(self, data: bytes) -> Result | None:
         """Returns the result that a file has; None where it isn't whole."""
         text = data.decode("latin-1")
@@ -57,10 +53,12 @@ class Rule:
             return None
         line, verdict, length, black_restarts, white_restarts, vertices = parts.groups()
         count = int(length)
-        if (vertices.count(" ") + 1 if vertices else 0) != count or not self.allows(verdict):
+        if verdict not in self.verdicts and not OF_SERVER.fullmatch(verdict):
             return None
-        is_whole = BOARD_END.search(text, parts.end()) if self.has_board else None
-        if not (is_whole or not self.has_board and parts.end() == len(text)):
+        if count != (vertices.count(" ") + 1 if vertices else 0):
+            return None
+        end = parts.end()
+        if not (BOARD_END.search(text, end) if self.has_board else end == len(text)):
             return None
         return Result(line, verdict, count, (int(black_restarts), int(white_restarts)), vertices)
 
@@ -135,18 +133,11 @@ class Unreadable:
             output.report(f"files in {self.folder}/games that can't be read: {self.count}")
 
 
-class GameFile(NamedTuple):
-    """A game of a plan that has a file: its number, and its result; None where that is damaged or
-    can't be read."""
-
-    game: int
-    result: Result | None
-
-
 def of_all(
     plan: Plan, folder: str, states: bytearray | None = None, is_quiet: bool = False
-) -> Iterator[GameFile]:
-    """Yields the games of the plan that have a file, except those with a result by these states."""
+) -> Iterator[tuple[int, Result | None]]:
+    """Yields the games of the plan that have a file, except those with a result by these states:
+    the number of each, and its result; None where that is damaged or can't be read."""
     games, rule, unreadable = plan.games(), Rule(plan), Unreadable(folder, is_quiet)
     try:
         directory = os.open(f"{folder}/games", os.O_RDONLY | os.O_DIRECTORY)
@@ -159,12 +150,12 @@ def of_all(
                 if number is None or states and states[number] in HAVE_RESULT:
                     continue
                 try:
-                    yield GameFile(number, rule.read(file.name, directory))
+                    yield number, rule.read(file.name, directory)
                 except FileNotFoundError:
                     continue
                 except OSError as error:
                     unreadable.add(file.name, error)
-                    yield GameFile(number, None)
+                    yield number, None
     finally:
         os.close(directory)
     unreadable.end()
@@ -172,19 +163,19 @@ def of_all(
 
 def of_share(
     plan: Plan, folder: str, share: Share, states: bytearray, is_quiet: bool = False
-) -> Iterator[GameFile]:
+) -> Iterator[tuple[int, Result | None]]:
     """Yields the same of a share of the games, in the plan's order, and looks at no others."""
     games, rule, unreadable = plan.games(), Rule(plan), Unreadable(folder, is_quiet)
     for number in share.of(games.count):
         if states[number] not in HAVE_RESULT:
             name = games.name(number)
             try:
-                yield GameFile(number, rule.read(f"{folder}/games/{name}"))
+                yield number, rule.read(f"{folder}/games/{name}")
             except FileNotFoundError:
                 continue
             except OSError as error:
                 unreadable.add(name, error)
-                yield GameFile(number, None)
+                yield number, None
     unreadable.end()
 
 
