@@ -281,8 +281,23 @@ def lost_on_time(runner: Runner) -> Runner:
     clock = ["--clock", "byoyomi 0 4 1", "--seeds", "1"]
     assert runner.tournament("plan", "all", *both, *clock, *SMALL).status == 0
     runner.pass_trials()
-    assert runner.tournament("game", "all", "1_one_two").status == 1
+    assert runner.tournament("game", "all", "1_one_two").status == 0
     return runner
+
+
+def test_loss_on_time_is_a_result_and_not_played_again(lost_on_time: Runner) -> None:
+    before = lost_on_time.games()
+    asked = lost_on_time.folder / "asked"
+    asked.write_text(asked.read_text()[:-2])  # so that it begins with its first move again
+    done = lost_on_time.tournament("play", "all", "--again", "--jobs", "1")
+    assert (done.status, done.errors) == (0, "")
+    assert done.output.splitlines()[-1] == "2 of 2 games have a result"
+    after = lost_on_time.games()
+    assert after.pop("1_two_one").startswith("game 1: abandoned white ")
+    assert after == before
+    for place in (lost_on_time.folder / "all/notes").iterdir():
+        place.unlink()  # which alone tell how the sides were abandoned
+    assert lost_on_time.tournament("play", "all").status == 1
 
 
 def test_loss_on_time_counts_as_one(lost_on_time: Runner) -> None:
@@ -347,14 +362,13 @@ def test_work_of_processors_is_that_of_a_late_move_too(runner: Runner) -> None:
 
 
 def test_work_of_processors_in_a_game_is_added_up(lost_on_time: Runner) -> None:
-    notes = notes_of(lost_on_time, "1_one_two")
-    used = {
-        side: sum(
-            float(word) for word in re.findall(rf"{side} .* cpu (\d\.\d\d)", "\n".join(notes))
-        )
+    *notes, thought, _ = notes_of(lost_on_time, "1_one_two")
+    text = "\n".join(notes)
+    black, white = (
+        sum(map(float, re.findall(rf"{side} .* cpu (\d+\.\d\d)", text)))
         for side in ("black", "white")
-    }
-    assert notes[-2].endswith(f"; cpu {used['black']:.2f}, {used['white']:.2f}")
+    )
+    assert thought.endswith(f"; cpu {black:.2f}, {white:.2f}")
 
 
 # ---- whole games

@@ -241,7 +241,7 @@ class State(enum.IntEnum):
 
     MISSING = 0
     WHOLE = 1
-    LOST = 2  # a result in which a side was unfit or abandoned
+    LOST = 2  # a result in which a side was unfit, or abandoned other than on time
     DAMAGED = 3
     LOGGED = 4  # a log, which says why there is no result
 

@@ -88,7 +88,7 @@ class Play:
 
     def add_result(self, game: int, result: Result) -> None:
         """Counts a game's result."""
-        self.states[game] = results.state_of(result)
+        self.states[game] = results.state_of(self.plan, self.run.folder, game, result)
         self.count += 1
         self.old.pop(game, None)
 

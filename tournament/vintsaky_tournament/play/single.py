@@ -4,8 +4,9 @@ from __future__ import annotations
 import time
 
 from .. import output
-from ..model import GameId, Outcome, Plan
+from ..model import GameId, Outcome, Plan, State
 from ..output import NoStart
+from ..store import results
 from ..store.layout import InTheWay, Taken
 from .known import NO_START, KnownEngines
 from .run import Run
@@ -18,7 +19,7 @@ class One:
     """One game of a plan, by its name."""
 
     def __init__(self, plan: Plan, folder: str, twogtp: str, name: str) -> None:
-        self.run, self.name = Run(plan, folder, twogtp), name
+        self.run, self.plan, self.name = Run(plan, folder, twogtp), plan, name
         self.known, self.engines = KnownEngines(self.run, plan), GameId.parse(name).engines
 
     def begin(self) -> int | None:
@@ -69,7 +70,9 @@ class One:
         except OSError:
             output.report(f"{self.name}: it has a result, but this line was not written")
             return 1
-        return 1 if result.is_lost() else 0
+        game = self.plan.games().number(self.name) or 0
+        state = results.state_of(self.plan, self.run.folder, game, result)
+        return 1 if state is State.LOST else 0
 
 
 def play_one(plan: Plan, folder: str, twogtp: str, name: str) -> int:

@@ -24,7 +24,7 @@ import contextlib
 import re
 from typing import NamedTuple
 
-from ..model import COLOURS, SIDES, Side
+from ..model import COLOURS, SIDES, Result, Side
 from . import results
 
 TOO_LATE = ("late", "out-of-time")
@@ -150,6 +150,13 @@ def late_in(folder: str, name: str, line: str) -> Late | None:
     """Returns who was late in a game; None where its notes aren't of a result with this line."""
     data = bytes_for(folder, name, line)
     return None if data is None else Late(data)
+
+
+def is_loss_on_time(folder: str, name: str, result: Result) -> bool:
+    """Returns whether the side that was abandoned in a game was out of time by its clock."""
+    side = result.abandoned_side()
+    found = None if side is None else late_in(folder, name, result.line)
+    return side is not None and found is not None and found.out_of_time[side]
 
 
 def read(place: str) -> Notes | None:

@@ -198,15 +198,21 @@ def states_of(
         else of_all(plan, folder, states, is_quiet)
     )
     for number, result in looked_at:
-        states[number] = state_of(result)
+        states[number] = state_of(plan, folder, number, result)
     return states
 
 
-def state_of(result: Result | None) -> State:
-    """Returns the state of a game that has a file."""
+def state_of(plan: Plan, folder: str, game: int, result: Result | None) -> State:
+    """Returns the state of the game of this number, which has a file. A loss on time by a clock is
+    a result as others are."""
     if result is None:
         return State.DAMAGED
-    return State.LOST if result.is_lost() else State.WHOLE
+    if not result.is_lost():
+        return State.WHOLE
+    from .notes import is_loss_on_time  # which imports this module
+
+    is_on_time = plan.clock is not None and is_loss_on_time(folder, plan.games().name(game), result)
+    return State.WHOLE if is_on_time else State.LOST
 
 
 def last_lines(place: str) -> list[bytes]:
