@@ -46,6 +46,21 @@ def test_one_process_is_killed(command: List[str], name: str, runner: Runner) ->
     assert runner.is_idle()
 
 
+def test_run_kills_what_a_killed_game_has_left(runner: Runner) -> None:
+    # with --direct nothing else watches over an engine whose twogtp is gone
+    stubborn = runner.script("stubborn", STUBBORN)
+    both = engines(one=str(stubborn), two=str(stubborn))
+    runner.tournament("plan", "all", *both, "--seeds", "1", "--direct")
+    runner.pass_trials()
+    process = runner.start("tournament", *ONE_AT_A_TIME, **UNREAD)
+    runner.wait_until(lambda: len(runner.named("stubborn")) >= 4)
+    first = set(runner.named("stubborn"))
+    kill(runner.named("game 1_one_two")[0])
+    runner.wait_until(lambda: not first & set(runner.named("stubborn")))
+    process.terminate()
+    assert runner.is_idle()
+
+
 def test_all_that_play_are_killed_at_one_moment(runner: Runner) -> None:
     hangs = runner.script("hangs", HANGS)
     both = engines(one=f"{hangs} 1", two=f"{hangs} 1")
