@@ -208,7 +208,9 @@ def test_infinite_difference_is_null_in_json(runner: Runner) -> None:
 # a - b: a won all four. a - c: a won 1_a_c and 2_c_a, c won 1_c_a, 2_a_c was drawn. b - c: c won
 # 1_b_c and 1_c_b, 2_b_c was at the limit, 2_c_b was drawn. Points: a 4 + 2 + 0.5, c 1 + 2 + 0.5 +
 # 0.5, b 0.5. a won 6 of 7, c 3 of 5, b 0 of 6. Pairs: of a - b both are 2; a - c has 1 and 3/2; c -
-# b has 2, and of seed 2 1/2 + 1/2.
+# b has 2, and of seed 2 1/2 + 1/2. The ratings are by R: BTm of BradleyTerry2, its sandwich by R's
+# matrices, and Black's advantage by glm, where each two engines have half a pair more, a quarter
+# won twice and a quarter lost twice.
 THREE_ENGINES = {
     "1_a_b": "B+1",
     "1_b_a": "W+1",
@@ -230,6 +232,12 @@ engine  points    won  percent   with Black     with White
 a          6.5      6     85.7   3 of 3         3 of 4
 c            4      3     60.0   2 of 3         1 of 2
 b          0.5      0      0.0   0 of 3         0 of 3
+
+engine     Elo  95 % interval   better than the next
+a         +136  -35 to +307      80.7 %
+c          +28  -122 to +178     88.0 %
+b         -164  -372 to +44
+Black's advantage: +32 Elo, -107 to +171
 
 pair               won  no winner      0  0.5    1  1.5    2  score  95 % interval   Elo  95 % interval
 a - all            6-1          1      0    0    1    1    2   81.2  44.0 to 100.0  +255  -42 to +inf

@@ -237,7 +237,9 @@ usage: tally FOLDER [--abandoned half|out|loses] [--late half|out|loses]
            [--no-winner half|out] [--sprt ELO0 ELO1 [--between NAME NAME]]
            [--json]
 
-Counts the results of a directory that tournament made.
+Counts the results of a directory that tournament made. With three engines or
+more it rates them in Elo by maximum likelihood, from the mean of all, with 95 %
+intervals that follow from whole pairs.
 
 """
     + LOSSES

@@ -9,6 +9,7 @@ from ..model import Side
 from ..stats import scores
 from ..stats.pairs import PairCounts
 from ..stats.sprt import Test
+from ..stats.standings import Standings
 from ..stats.summary import EngineRow, PairingRow, Row, Summary, without_result
 
 ACCEPTED = {None: "go on", 0: "elo0", 1: "elo1"}
@@ -30,6 +31,7 @@ def json_of(summary: Summary, test: Test | None = None) -> str:
         "white_won": counts.won_by(Side.WHITE),
         "ended": dict(sorted(counts.descriptions().items())),
         "engines": [of_engine(row, blames[row.name]) for row in summary.order],
+        **of_standings(summary.standings()),
         "pairs": [of_pairing(row) for row in summary.played()],
         "same": [[name(game) for game in group] for group in counts.pairs.same()],
         "damaged": counts.damaged(),
@@ -61,6 +63,25 @@ def of_pairing(row: PairingRow) -> dict[str, Any]:
     return {"engines": [row.first, row.second], **of_games(row.games), **of_pairs(row.pairs)}
 
 
+def of_standings(standings: Standings) -> dict[str, Any]:
+    """Returns the ratings of the engines, the best one of each group first, and what Black's first
+    move is worth."""
+    ratings = [
+        {
+            "engine": engine,
+            "group": number,
+            "elo": rating.elo,
+            "elo_interval": [rating.low, rating.high],
+            "better_than_next": better,
+        }
+        for number, group in enumerate(standings.groups)
+        for engine, rating, better in group
+    ]
+    black = standings.black
+    advantage = black and {"elo": black.elo, "elo_interval": [black.low, black.high]}
+    return {"ratings": ratings, "black": advantage}
+
+
 def of_games(games: Row) -> dict[str, int]:
     """Returns how games ended: won, lost, or without a winner, as drawn ones did."""
     return {
@@ -74,22 +95,20 @@ def of_games(games: Row) -> dict[str, int]:
 
 def of_pairs(found: PairCounts) -> dict[str, Any]:
     """Returns the five counts of pairs, their score and the difference in Elo."""
-    score, interval = found.score(), found.interval()
+    rating = found.estimate()
     return {
         "pairs": found.every,
         "pairs_in_interval": sum(found.clusters.values()),
-        "score": score,
-        "interval": interval,
-        "elo": in_elo(score),
-        "elo_interval": interval and [in_elo(end) for end in interval],
+        "score": found.score(),
+        "interval": found.interval(),
+        "elo": rating and finite(rating.elo),
+        "elo_interval": rating and [finite(rating.low), finite(rating.high)],
     }
 
 
-def in_elo(score: float | None) -> float | None:
-    """Returns a score as a difference in Elo; None where that is infinite, or there is no score."""
-    if score is None or not math.isfinite(scores.elo(score)):
-        return None
-    return scores.elo(score)
+def finite(elo: float) -> float | None:
+    """Returns a difference in Elo; None where it is infinite."""
+    return elo if math.isfinite(elo) else None
 
 
 def of_test(test: Test) -> dict[str, Any]:

@@ -33,6 +33,7 @@ class Table:
         yield ""
         yield from self.of_engines()
         yield ""
+        yield from self.of_standings()
         yield from self.of_pairs()
         yield ""
         yield from self.of_all()
@@ -51,6 +52,27 @@ class Table:
             games, (black, white) = row.games, row.by_side
             counts = f"{points(games):>6}  {games.won:5}    {percent(games)}"
             yield f"{row.name:{self.width}}  {counts}   {won_of(black):13}  {won_of(white)}"
+
+    def of_standings(self) -> Iterator[str]:
+        """Yields a line for each engine that is rated, and what Black's first move is worth."""
+        standings = self.summary.standings()
+        if standings.are_too_many:
+            yield from (f"no ratings: {len(self.summary.rows)} engines are too many", "")
+        if not standings.groups:
+            return
+        yield f"{'engine':{self.width}}     Elo  95 % interval   better than the next"
+        for number, group in enumerate(standings.groups):
+            if number:
+                yield "no games join these with those above:"
+            for engine, rating, better in group:
+                interval = f"{whole(rating.low)} to {whole(rating.high)}"
+                chance = "" if better is None else f"{100 * better:5.1f} %"
+                line = f"{engine:{self.width}}  {whole(rating.elo):>6}  {interval:14}  {chance}"
+                yield line.rstrip()
+        if black := standings.black:
+            interval = f"{whole(black.low)} to {whole(black.high)}"
+            yield f"Black's advantage: {whole(black.elo)} Elo, {interval}"
+        yield ""
 
     def of_pairs(self) -> Iterator[str]:
         """Yields a line for each two engines, and before them one for each engine that has more
@@ -146,17 +168,16 @@ def won_of(games: Row) -> str:
 def of_score(every: tuple[int, ...], clusters: tuple[tuple[Cluster, int], ...]) -> str:
     """Returns the score of pairs in percent, and the difference in Elo, each with its interval."""
     found = PairCounts(every, dict(clusters))
-    score, interval = found.score(), found.interval()
-    if score is None or interval is None:
+    score, interval, rating = found.score(), found.interval(), found.estimate()
+    if score is None or interval is None or rating is None:
         return NO_PAIRS
     scored = " to ".join(f"{100 * end:.1f}" for end in interval)
-    elo = " to ".join(map(in_elo, interval))
-    return f"{100 * score:5.1f}  {scored:13}  {in_elo(score):>4}  {elo}"
+    elo = f"{whole(rating.low)} to {whole(rating.high)}"
+    return f"{100 * score:5.1f}  {scored:13}  {whole(rating.elo):>4}  {elo}"
 
 
-def in_elo(score: float) -> str:
-    """Returns a score as a difference in Elo."""
-    elo = scores.elo(score)
+def whole(elo: float) -> str:
+    """Returns a difference in Elo without decimals."""
     return f"{elo:+}" if math.isinf(elo) else f"{round(elo):+}"
 
 

@@ -15,7 +15,7 @@ from typing import Collection, Iterable, Mapping, NamedTuple, Sequence
 
 from ..model import Ending, Plan, Result, Side, Way
 from . import scores
-from .scores import Cluster
+from .scores import Cluster, Estimate, Observed, Together
 
 SHORT = 20  # moves up to which games may be the same by chance
 
@@ -37,6 +37,9 @@ OUTCOMES = {
     for one in COUNTED
     for other in COUNTED
 }
+
+
+POINTS = {int(score): (score - Score.LOST) / 2 for score in COUNTED}  # of Black
 
 
 class Pairing(NamedTuple):
@@ -94,6 +97,33 @@ class Pairs:
         first, second = self.scores_of(pairing.as_black), self.scores_of(pairing.as_white)
         counts = counts_of(zip(first, second))
         return PairCounts(counts, clusters_of(counts, first, second, self.repeats(pairing)))
+
+    def observed(self, pairing: Pairing) -> Counter[Together]:
+        """Returns the pairs of two engines, of which those that repeat each other are one."""
+        first, second = self.scores_of(pairing.as_black), self.scores_of(pairing.as_white)
+        found = Counter[Together]()
+        for ends, count in Counter(zip(first, second)).items():
+            if ends in OUTCOMES:
+                found[games_of(ends)] += count
+        several: dict[int, Together] = {}  # of a seed, its games and those of pairs like it
+        for seed, before in self.repeats(pairing).items():
+            alone = [games_of((first[one], second[one])) for one in (before, seed)]
+            found[alone[1]] -= 1
+            if before not in several:
+                found[alone[0]] -= 1
+                several[before] = alone[0]
+            several[before] += alone[1]
+        found.update(several.values())
+        return +found
+
+    def observed_alone(self, pairing: Pairing) -> Counter[Together]:
+        """Returns the games of two engines that count, but whose pair isn't whole."""
+        first, second = self.scores_of(pairing.as_black), self.scores_of(pairing.as_white)
+        found = Counter[Together]()
+        for ends, count in Counter(zip(first, second)).items():
+            if ends not in OUTCOMES and (games := games_of(ends)):
+                found[games] += count
+        return found
 
     def repeats(self, pairing: Pairing) -> dict[int, int]:
         """Returns the pairs of which a game is the same as one in an earlier pair that repeats none
@@ -168,6 +198,22 @@ class PairCounts:
     def interval(self) -> tuple[float, float] | None:
         """Returns the 95 % interval of the score; None where there is no pair."""
         return scores.interval(self.clusters) if self.clusters else None
+
+    def estimate(self) -> Estimate | None:
+        """Returns the score and its interval as differences in Elo; None where there is no pair."""
+        score, interval = self.score(), self.interval()
+        if score is None or interval is None:
+            return None
+        return Estimate(*map(scores.elo, (score, *interval)))
+
+
+def games_of(ends: tuple[int, int]) -> Together:
+    """Returns those of two games that count: the first engine's with Black, and with White."""
+    return tuple(
+        Observed(is_first, POINTS[end])
+        for is_first, end in zip((True, False), ends)
+        if end in POINTS
+    )
 
 
 def clusters_of(

@@ -8,7 +8,7 @@ can be won: from 0 to 1.
 from __future__ import annotations
 
 import math
-from typing import Mapping, NamedTuple, Sequence
+from typing import Mapping, NamedTuple, Sequence, Tuple
 
 Z = 1.959963984540054  # of a 95 % interval
 BOUND = math.log(19)  # of the log likelihood ratio, where both errors are to be 5 %: 0.95 / 0.05
@@ -23,6 +23,24 @@ class Cluster(NamedTuple):
 
     pairs: int
     half_points: int
+
+
+class Observed(NamedTuple):
+    """A game of two engines: whether the first of them was Black, and Black's points, 0 to 1."""
+
+    is_first: bool
+    points: float
+
+
+Together = Tuple[Observed, ...]  # games that are one observation
+
+
+class Estimate(NamedTuple):
+    """A number in Elo, and its 95 % interval."""
+
+    elo: float
+    low: float
+    high: float
 
 
 def moments(counts: Sequence[float]) -> tuple[float, float]:

@@ -4,12 +4,15 @@ from __future__ import annotations
 import contextlib
 import os
 from collections import Counter
-from typing import Iterator, NamedTuple, Sequence
+from typing import TYPE_CHECKING, Iterator, NamedTuple, Sequence
 
 from ..model import FORFEITS, SIDES, Ending, Plan, Side, State, Way
 from ..store import results
 from .endings import Endings, Rule, Rules
 from .pairs import PairCounts, Pairs
+
+if TYPE_CHECKING:
+    from .standings import Standings
 
 OTHERS_TO_LOOK_INTO = (Way.UNFIT, Way.ABANDONED, Way.LATE, Way.TIME)
 PREFIX = "tournament: "  # of the line of a log that says why a game has no result
@@ -174,6 +177,12 @@ class Summary:
             for other in self.order[at + 1 :]:
                 if (one.name, other.name) in self.pairings:
                     yield self.pairings[one.name, other.name]
+
+    def standings(self) -> Standings:
+        """Returns the ratings of the engines."""
+        from .standings import Standings  # which isn't needed elsewhere
+
+        return Standings(self.counts.pairs, list(self.rows))
 
     def blames(self) -> Iterator[Blame]:
         """Yields how often each engine was to blame, and restarted."""
