@@ -10,14 +10,14 @@ from ..config.arguments import Arguments
 from ..config.plan_file import read_plan
 from ..model import Plan
 from ..output import Mistake
-from ..stats.sprt import MOST, Asked, Test
+from ..stats.sprt import MOST, Test, TestRequest
 from ..stats.summary import Counts, Summary
 from .losses import rules_of
 
 STATUSES = {1: 0, 0: 3, None: 4}  # of a test, by the difference in Elo that is accepted
 
 
-def asked_of(arguments: Arguments, plan: Plan) -> Asked | None:
+def asked_of(arguments: Arguments, plan: Plan) -> TestRequest | None:
     """Returns the test that the options ask for, if they do."""
     tested = arguments.last_of_two("--sprt", differences)
     engines = arguments.last_of_two("--between", lambda _, names: names)
@@ -35,7 +35,7 @@ def asked_of(arguments: Arguments, plan: Plan) -> Asked | None:
             f"--between needs two engines that play each other, such as {example}, and not "
             f"'{' '.join(engines)}'"
         )
-    return Asked(tested, engines or playing[0]) if tested else None
+    return TestRequest(tested, engines or playing[0]) if tested else None
 
 
 def differences(name: str, values: Sequence[str]) -> tuple[float, float]:

@@ -32,7 +32,7 @@ SOON = 10  # seconds after which it is said what is waited for
 TO_SPACES = {ord(character): " " for character in "\t\n\0"}
 
 
-class Verdict(str, enum.Enum):
+class EngineState(str, enum.Enum):
     """What is written down of an engine."""
 
     PASSED = "passed"
@@ -41,13 +41,13 @@ class Verdict(str, enum.Enum):
     UNSTARTED = "unstarted"
 
 
-WITH_REASON = (Verdict.UNABLE, Verdict.UNSTARTED)
+WITH_REASON = (EngineState.UNABLE, EngineState.UNSTARTED)
 
 
 class Known(NamedTuple):
-    """What is written down of an engine: the verdict, when that counts, and why."""
+    """What is written down of an engine: the state, when that counts, and why."""
 
-    verdict: str = ""
+    state: str = ""
     counts: str = ""
     reason: str = ""
 
@@ -90,44 +90,44 @@ class KnownEngines:
         """Returns what is written down, by key."""
         found = {}
         for line in output.read_lines(file):
-            verdict, _, key = line.partition(" ")
-            parts = key.rsplit("\t", 2) if verdict in WITH_REASON else [key, "", ""]
+            state, _, key = line.partition(" ")
+            parts = key.rsplit("\t", 2) if state in WITH_REASON else [key, "", ""]
             if len(parts) == 3:
-                found[parts[0]] = Known(verdict, *parts[1:])
+                found[parts[0]] = Known(state, *parts[1:])
         return found
 
-    def note(self, verdict: Verdict, name: str, *more: str) -> None:
-        """Writes down a verdict on an engine, and for some when it counts, and why."""
+    def note(self, state: EngineState, name: str, *more: str) -> None:
+        """Writes down the state of an engine, and for some when it counts, and why."""
         texts = [self.key(name), *(text.translate(TO_SPACES) for text in more)]
         with contextlib.suppress(FileNotFoundError):
             file = os.open(f"{self.place}/passed", os.O_WRONLY | os.O_APPEND)
             try:
-                output.write(file, f"{verdict.value} " + "\t".join(texts) + "\n")
+                output.write(file, f"{state.value} " + "\t".join(texts) + "\n")
             finally:
                 os.close(file)
 
     def note_failed(self, name: str) -> None:
         """Writes down that an engine wasn't started in a game."""
-        self.note(Verdict.FAILED, name)
+        self.note(EngineState.FAILED, name)
 
     def could_start(self, name: str, known: dict[str, Known]) -> bool | None:
         """Returns whether an engine could be started in a trial that counts; None where it is to be
         tried. What it can't do is said again."""
-        verdict, counts, reason = known.get(self.key(name), Known())
+        state, counts, reason = known.get(self.key(name), Known())
         is_done = name in self.done
-        if name in self.again and not is_done and verdict != Verdict.UNSTARTED:
+        if name in self.again and not is_done and state != EngineState.UNSTARTED:
             return None
-        was_started = verdict in (Verdict.PASSED, Verdict.UNABLE)
+        was_started = state in (EngineState.PASSED, EngineState.UNABLE)
         if was_started and not is_done and not self.is_there(name):
             return None  # its trial says what is missing
-        if verdict == Verdict.UNABLE and counts == str(tuple(self.limits)) and not is_done:
+        if state == EngineState.UNABLE and counts == str(tuple(self.limits)) and not is_done:
             self.done.add(name)
             advice = f"to try again, remove {self.run.folder}/{self.name}/passed"
             output.report(f"{name}: {reason}; tried before: {advice}")
-        elif verdict == Verdict.UNSTARTED and self.began < seconds_of(counts) <= time.time():
+        elif state == EngineState.UNSTARTED and self.began < seconds_of(counts) <= time.time():
             output.report(f"{name} can't be started here: {reason}")
             return False
-        return True if verdict == Verdict.PASSED or name in self.done else None
+        return True if state == EngineState.PASSED or name in self.done else None
 
     def is_there(self, name: str) -> bool:
         """Returns whether the program of an engine is there, where its command names it without the

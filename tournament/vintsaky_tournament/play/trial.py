@@ -28,19 +28,19 @@ CHUNK = 65536
 SHOWN = 80  # bytes of an answer that are shown
 
 
-class Passed(enum.IntEnum):
+class TrialOutcome(enum.IntEnum):
     """How a trial ended: the status of its process."""
 
-    ALL = 0  # the engine answered all
-    PARTLY = 1  # something was refused
-    NOTHING = 2  # nothing was answered
+    PASSED = 0  # the engine answered all
+    UNABLE = 1  # something was refused
+    NOT_STARTED = 2  # nothing was answered
     BROKEN = 3  # the trial itself failed
 
 
 class Report(NamedTuple):
     """How a trial ended, what the engine can't do, and what it says that it is."""
 
-    passed: Passed
+    outcome: TrialOutcome
     failure: str
     version: str
 
@@ -178,21 +178,21 @@ def attempt(command: list[str], folder: str, log: int, setup: Setup, limits: Lim
         ]
         version = " ".join(filter(None, said))
         engine.quit(limits.end)
-        return Report(Passed.ALL, "", version)
+        return Report(TrialOutcome.PASSED, "", version)
     except Failed as failed:
-        passed = Passed.PARTLY if engine.has_answered else Passed.NOTHING
-        return Report(passed, failed.text, version)
+        outcome = TrialOutcome.UNABLE if engine.has_answered else TrialOutcome.NOT_STARTED
+        return Report(outcome, failed.text, version)
 
 
-def passed_of(status: int) -> Passed:
+def outcome_of(status: int) -> TrialOutcome:
     """Returns how a trial ended whose process ended with this status, or by a signal."""
-    return Passed(status) if 0 <= status < len(Passed) else Passed.BROKEN
+    return TrialOutcome(status) if 0 <= status < len(TrialOutcome) else TrialOutcome.BROKEN
 
 
 def end_here(*_: object) -> NoReturn:
     """Ends all that is below this process, and the process."""
     processes.end_descendants()
-    os._exit(Passed.BROKEN)
+    os._exit(TrialOutcome.BROKEN)
 
 
 def watch(name: str, parent: int) -> bool:
@@ -218,34 +218,34 @@ class Trial(NamedTuple):
     def run(self, parent: int, output: int) -> NoReturn:
         """Tries the engine below this process, a new fork of the run, and ends the process. The
         report is written into a pipe."""
-        passed = Passed.BROKEN
+        outcome = TrialOutcome.BROKEN
         try:
             os.setsid()
             if watch(f"trial {self.name}", parent):
-                passed = self.run_below(output)
+                outcome = self.run_below(output)
         except BaseException as error:  # this process may not go on as the run
             text = f"its trial failed: {type(error).__name__}: {error}"
             os.write(output, text.encode(errors="replace"))
         finally:
-            os._exit(passed)
+            os._exit(outcome)
 
-    def run_below(self, output: int) -> Passed:
+    def run_below(self, output: int) -> TrialOutcome:
         """Tries the engine in a child of this process, and returns how that ended. The child writes
         into a pipe what the engine can't do, a zero byte, and what it says that it is."""
         own, process = os.getpid(), os.fork()
         if process:
             status = os.waitstatus_to_exitcode(os.waitpid(process, 0)[1])
             processes.end_descendants()
-            return passed_of(status)
+            return outcome_of(status)
         if not watch(f"asks {self.name}", own):
-            return Passed.BROKEN
+            return TrialOutcome.BROKEN
         report = attempt(self.command, self.folder, self.log, self.setup, self.limits)
         processes.end_descendants()
         os.write(output, os.fsencode(f"{report.failure}\0{report.version}"))
-        return report.passed
+        return report.outcome
 
 
 def report_of(status: int, text: str) -> Report:
     """Returns the report of a trial, by the status of its process and what that wrote."""
     failure, _, version = text.partition("\0")
-    return Report(passed_of(status), failure, version)
+    return Report(outcome_of(status), failure, version)

@@ -9,8 +9,8 @@ from ..store import results
 from ..store.layout import new_file
 from ..store.versions import add_version
 from . import programs
-from .known import KnownEngines, LongWait, Verdict
-from .trial import Passed, Report, Trial, report_of
+from .known import EngineState, KnownEngines, LongWait
+from .trial import Report, Trial, TrialOutcome, report_of
 
 
 def try_engine(known: KnownEngines, name: str) -> bool:
@@ -22,14 +22,14 @@ def try_engine(known: KnownEngines, name: str) -> bool:
     lines = results.last_lines(place)
     if not lines:
         os.unlink(place)
-    if report.passed is Passed.ALL or report.version:
+    if report.outcome is TrialOutcome.PASSED or report.version:
         twogtp = programs.version_of(known.match.twogtp)
         add_version(known.place, name, report.version, twogtp)
-    if report.passed is Passed.ALL:
-        known.note(Verdict.PASSED, name)
+    if report.outcome is TrialOutcome.PASSED:
+        known.note(EngineState.PASSED, name)
     elif not known.run.stopped:
         tell(known, name, report, lines)
-    if report.passed is Passed.NOTHING:
+    if report.outcome is TrialOutcome.NOT_STARTED:
         return False
     known.done.add(name)
     return True
@@ -41,16 +41,16 @@ def tell(known: KnownEngines, name: str, report: Report, lines: list[bytes]) -> 
     if lines:
         log = f"{known.run.folder}/{known.name}/{name}.log"
         errors = [line for line in lines if b"error:" in line.lower()]
-        line = errors[-1] if errors and report.passed is Passed.NOTHING else lines[-1]
+        line = errors[-1] if errors and report.outcome is TrialOutcome.NOT_STARTED else lines[-1]
         which = "the last line" if line == lines[-1] else "a line"
         reason += f"; {which} of {log} is: {results.quote(line)}"
-    if report.passed is Passed.NOTHING:
+    if report.outcome is TrialOutcome.NOT_STARTED:
         output.report(f"{name} can't be started here: {reason}")
-        known.note(Verdict.UNSTARTED, name, str(time.time()), reason)
+        known.note(EngineState.UNSTARTED, name, str(time.time()), reason)
     else:
         output.report(f"{name}: {reason}")
-        if report.passed is Passed.PARTLY:
-            known.note(Verdict.UNABLE, name, str(tuple(known.limits)), reason)
+        if report.outcome is TrialOutcome.UNABLE:
+            known.note(EngineState.UNABLE, name, str(tuple(known.limits)), reason)
 
 
 def report_on(known: KnownEngines, name: str, log: int) -> Report:

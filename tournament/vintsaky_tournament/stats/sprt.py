@@ -11,7 +11,7 @@ if TYPE_CHECKING:
 MOST = 800  # Elo of a difference: tests of greater ones weren't simulated
 
 
-class Asked(NamedTuple):
+class TestRequest(NamedTuple):
     """A test that is asked for: two differences in Elo, and two engines."""
 
     differences: tuple[float, float]
@@ -21,8 +21,8 @@ class Asked(NamedTuple):
 class Test:
     """A sequential test of two differences in Elo, of the first of two engines to the second."""
 
-    def __init__(self, pairs: Pairs, asked: Asked) -> None:
-        self.engines, self.differences = list(asked.engines), asked.differences
+    def __init__(self, pairs: Pairs, request: TestRequest) -> None:
+        self.engines, self.differences = list(request.engines), request.differences
         (pairing,) = (each for each in pairs.pairings() if set(each[:2]) == set(self.engines))
         counts = pairs.in_order(pairing)
         self.counts = counts if pairing.first == self.engines[0] else counts[::-1]
