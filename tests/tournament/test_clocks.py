@@ -2,13 +2,16 @@
 from __future__ import annotations
 
 import json
+import os
 import re
+import select
 import subprocess
 import sys
-from typing import Dict, List
+from typing import Dict, List, NamedTuple, Optional
 
 import pytest
 
+from .inside import module
 from .notes import Between, notes_of
 from .runner import RANDOM, SMALL, Done, Runner, engines
 
@@ -313,6 +316,51 @@ def test_loss_on_time_counts_as_one(lost_on_time: Runner) -> None:
     assert {'[Result "1-0"]', '[Termination "time forfeit"]'} < set(tags)
     assert lost_on_time.tournament("export", "all", "--sgf", "records").status == 0
     assert "RE[W+T]" in lost_on_time.files("records")["1_one_two.sgf"]
+
+
+def test_last_millisecond_counts_for_the_engine() -> None:
+    read_clock = module("relay.clock").read_clock
+    side = module("relay.timing").Timing(read_clock("byoyomi 0 5 1"), 0)
+    side.charge(5.02, is_move=True)  # it was there at the last look
+    assert side.seconds_left() == 5
+    side.charge(5.02, is_move=False)  # and here the engine ended
+    assert side.seconds_left() == 0
+
+
+class Talk(NamedTuple):
+    """A conversation in which no time is left, with what was read of the engine."""
+
+    read: List[bytes]
+
+    def seconds_to_wait(self) -> float:
+        return 0
+
+    def from_engine(self, data: bytes) -> bytes:
+        self.read.append(data)
+        return b""
+
+
+class Pipes(NamedTuple):
+    """What stands for an engine, by its output, and for a game, which waits for no more."""
+
+    output: int
+    input: Optional[int] = None
+
+    def wait(self, seconds: float, reads: List[int], writes: List[int]) -> List[int]:
+        return select.select(reads, writes, [], seconds)[0]
+
+
+@pytest.mark.parametrize("written", [b"= D4\n\n", b""], ids=["an answer", "no answer"])
+def test_answer_that_is_there_where_no_time_is_left_is_looked_at(
+    written: bytes, monkeypatch: pytest.MonkeyPatch
+) -> None:
+    between, (output, engine), (stdin, _) = module("relay.between"), os.pipe(), os.pipe()
+    monkeypatch.setattr(between, "STDIN", stdin)
+    monkeypatch.setattr(between, "STDOUT", engine)
+    os.write(engine, written)
+    talk = Talk([])
+    assert between.Relay(Pipes(output), talk, Pipes(output)).run()  # it is late in the end
+    assert talk.read == [written] * bool(written)
 
 
 # ---- the processor

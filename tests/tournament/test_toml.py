@@ -87,7 +87,7 @@ def test_all_lines_of_the_example(runner: Runner) -> None:
     assert runner.tournament("plan", "whole.toml")[::2] == (0, "")
     wanted = OF_EXAMPLE.replace("option --size", f"{GNUGO}\noption --size")
     wanted = wanted.replace("option --max", "option --handicap\noption 0\noption --max")
-    wanted = wanted.replace("move-limit 30", "gauntlet random\nmove-limit 30")
+    wanted = wanted.replace("move-limit 30", "gauntlet random\nmove-limit 30\nclock byoyomi 60 5 3")
     wanted = wanted.replace("seeds 2", "opening C3 G7\nopening E5\nseeds 2")
     assert plan_of(runner, "example") == wanted.splitlines()
 
