@@ -40,8 +40,15 @@ MISTAKES = {
     "game all 1_one_one": f"all/plan has no game '1_one_one': {NO_GAME}",
     "game all 01_one_two": f"all/plan has no game '01_one_two': {NO_GAME}",
     "paly x": (
-        "there is no command 'paly': write tournament play, plan, list, game, export or verify"
+        "there is no command 'paly': write tournament play, plan, list, game, export, verify or "
+        "score"
     ),
+    "score all": "all has no scorer: write tournament plan all --scorer CMD",
+    "play all --scorer": (
+        "--scorer needs CMD after it, such as --scorer 'gnugo --mode gtp --chinese-rules'"
+    ),
+    "play all --scorer ''": "the scorer has no command",
+    "play all --scorer ./nobody": "there is no ./nobody, which is to score the games",
     "verify": "FOLDER is missing: write tournament verify FOLDER",
     "list x": "there is no x/plan: tournament plan makes it",
     "list all more": "'more' is one argument too many: write tournament list FOLDER",
@@ -271,7 +278,7 @@ def test_options_that_a_plan_does_not_keep(
 # ---- help
 
 OF_PLAN = ["--engine", "--seeds", "--gauntlet", "--limit", "--move-limit", "--start-limit"]
-OF_PLAN += ["--clock", "--margin", "--openings", "--direct"]
+OF_PLAN += ["--clock", "--margin", "--scorer", "--openings", "--direct"]
 OF_PLAY = [*OF_PLAN, "--jobs", "--again", "--task", "--time-left", "--dry-run"]
 OF_LOSSES = ["--abandoned"] * 3 + ["--late"]
 OF_TALLY = [*OF_LOSSES, "--no-winner", "--no-winner", "--sprt", "--between", "--json"]
@@ -289,6 +296,7 @@ FORMS = ["--pgn", "--csv", "--jsonl", "--sgf"]
         ("tournament game", [], OF_GAMES),
         ("tournament export", [*FORMS, *OF_LOSSES], ["0", "1", "2", "141"]),
         ("tournament verify", [], ["0", "1", "2", "141"]),
+        ("tournament score", [], ["0", "1", "2", "141"]),
         ("tally", OF_TALLY, ["0", "1", "2", "3", "4", "141"]),
     ],
 )

@@ -13,7 +13,7 @@ from .runner import SCRIPTS, TWO, Runner
 STANDARD = set(
     "__future__ array collections contextlib csv ctypes difflib enum errno fcntl functools gc"
     " importlib io itertools json marshal math os random re select shlex signal sys time types"
-    " typing".split()
+    " typing zlib".split()
 )
 # what is in C of a module, which is imported alone where it is there
 IN_C = {"_ctypes", "_signal"}

@@ -76,6 +76,7 @@ class Plan:
         self.move_limit: str | None = None
         self.clock: str | None = None  # of each side, as relay/clock.py reads it
         self.margin: str | None = None  # seconds of a move that the clock doesn't count
+        self.scorer: str | None = None  # the command of an engine that finds dead stones
         self.openings: list[str] = []  # the moves of each, with spaces between them
         self.known_games: Games | None = None
 

@@ -9,10 +9,10 @@ from ..cluster import share, time_left
 from ..config.arguments import OF_PLAY, Arguments, processors
 from ..config.changes import Folder, plan_for, warning_of
 from ..config.plan_file import read_plan, write_plan
-from ..config.values import clock, number, seconds
-from ..model import Plan
+from ..config.values import clock, command, number, seconds
+from ..model import Engine, Plan
 from ..output import Mistake
-from ..play.programs import find_twogtp, try_options
+from ..play.programs import find, find_twogtp, try_options
 from ..store.layout import make_folders
 
 if TYPE_CHECKING:
@@ -37,10 +37,10 @@ def asked_plan(arguments: Arguments) -> tuple[Plan, bool]:
     for option in arguments.options:
         if option.name == "--engine":
             (value,) = option.values
-            name, is_named, command = value.partition("=")
+            name, is_named, engine = value.partition("=")
             if not is_named:
                 raise Mistake(f"--engine needs NAME=CMD, and not '{value}'")
-            plan.add_engine(name, command)
+            plan.add_engine(name, engine)
     plan.gauntlet = arguments.last("--gauntlet", lambda _, name: name)
     plan.options = arguments.after or []
     plan.seeds, plan.limit = arguments.last("--seeds", number), arguments.last("--limit", number)
@@ -48,6 +48,7 @@ def asked_plan(arguments: Arguments) -> tuple[Plan, bool]:
     plan.start_limit = arguments.last("--start-limit", seconds)
     plan.clock = arguments.last("--clock", clock)
     plan.margin = arguments.last("--margin", seconds)
+    plan.scorer = arguments.last("--scorer", command)
     plan.is_direct, plan.folder = arguments.has("--direct"), arguments.directory
     for left_out in TAKEN_BY_DIRECT:
         if plan.is_direct and arguments.has(left_out):
@@ -109,6 +110,7 @@ def do_play(arguments: Arguments) -> int:
     arguments = with_file(arguments)
     prepared = prepare(arguments)
     plan, folder = prepared.folder.plan, prepared.folder
+    check_scorer(plan)
     task, left = arguments.last("--task", share), arguments.last("--time-left", time_left)
     jobs = arguments.last("--jobs", number) or processors()
     if folder.surplus:
@@ -130,6 +132,14 @@ def dry_run(prepared: Prepared, task: Share | None, again: bool) -> int:
     if prepared.warning:
         output.report(prepared.warning)
     return show(prepared.folder.plan, prepared.folder.place, prepared.twogtp, task, again)
+
+
+def check_scorer(plan: Plan) -> None:
+    """Raises Mistake where the program of a plan's scorer isn't there."""
+    if plan.scorer:
+        program = Engine("the scorer", plan.scorer).words(is_direct=False)[0]
+        if not find(program, plan.folder or ""):
+            raise Mistake(f"there is no {program}, which is to score the games")
 
 
 def do_plan(arguments: Arguments) -> int:

@@ -53,6 +53,13 @@ def verify(arguments: Arguments) -> int:
     return do_verify(arguments)
 
 
+def score(arguments: Arguments) -> int:
+    """Has the games scored that the scorer of a plan hasn't, and returns the status."""
+    from .score import do_score
+
+    return do_score(arguments)
+
+
 # each imports what it needs alone, since modules are compiled at each start
 COMMANDS: dict[str, Callable[[Arguments], int]] = {
     "play": play,
@@ -61,6 +68,7 @@ COMMANDS: dict[str, Callable[[Arguments], int]] = {
     "game": game,
     "export": export,
     "verify": verify,
+    "score": score,
 }
 
 

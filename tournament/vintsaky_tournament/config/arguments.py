@@ -35,6 +35,7 @@ OF_PLAN: Options = {
     "--start-limit": Option("seconds", "--start-limit 300"),
     "--clock": Option("a clock", "--clock 'byoyomi 600 30 5'"),
     "--margin": Option("seconds", "--margin 0.1"),
+    "--scorer": Option("CMD", "--scorer 'gnugo --mode gtp --chinese-rules'"),
     "--openings": Option("FILE", "--openings openings.txt"),
     "--direct": None,
     "--gauntlet": Option("an engine's NAME", "--gauntlet new"),
@@ -64,6 +65,7 @@ OPTIONS: Mapping[str, Options] = {
     "game": {},
     "export": OF_EXPORT,
     "verify": {},
+    "score": {},
     "tally": OF_TALLY,
 }
 # of twogtp: those with a value, with an example, and the others

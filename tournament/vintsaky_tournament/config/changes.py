@@ -51,6 +51,7 @@ def plan_for(asked: Plan, is_given: bool, place: str) -> Folder:
     plan.seeds = asked.seeds or plan.seeds or SEEDS
     plan.limit = asked.limit or plan.limit or default_limit(plan)
     plan.start_limit = asked.start_limit or plan.start_limit
+    plan.scorer = asked.scorer or plan.scorer
     check(plan)
     return folder
 

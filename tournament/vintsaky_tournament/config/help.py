@@ -11,6 +11,7 @@ usage: tournament play FOLDER --engine NAME=CMD --engine NAME=CMD ..
        tournament game FOLDER GAME          plays one game
        tournament export FOLDER --csv       exports results for other programs
        tournament verify FOLDER             replays each game by gtp_engine
+       tournament score FOLDER              scores games that --scorer hasn't
        tournament COMMAND --help            explains one command
 """
 PLAN = """\
@@ -35,6 +36,13 @@ PLAN = """\
                      what both clocks allow, and 600 seconds more. You can't add
                      or change a clock later [no clock]
   --margin SECONDS   what the clock doesn't count of each move [0]
+  --scorer CMD       an engine that says which stones are dead at the end of a
+                     game: games that ended by two passes are replayed to it,
+                     and count by the area without the stones that it names for
+                     final_status_list dead; or by its final_score if it lacks
+                     that command. If it fails or is late, which is the limit of
+                     --start-limit for each answer, twogtp's verdict counts. You
+                     can give it later, too: see tournament score --help
   --openings FILE    openings; each line has the moves of one, such as
                      D4 Q16 pass, and # begins a comment. Seed 1 has the first
                      opening, with both colours, seed 2 the second, and so on;
@@ -123,8 +131,8 @@ usage: tournament play FOLDER --engine NAME=CMD --engine NAME=CMD ..
            [--gauntlet NAME]
            [--seeds N] [--limit SECONDS] [--move-limit SECONDS]
            [--start-limit SECONDS] [--clock CLOCK] [--margin SECONDS]
-           [--openings FILE] [--direct] [--jobs N] [--again] [--task K/T]
-           [--time-left TIME] [--dry-run] [-- OPTION ..]
+           [--scorer CMD] [--openings FILE] [--direct] [--jobs N] [--again]
+           [--task K/T] [--time-left TIME] [--dry-run] [-- OPTION ..]
        tournament play FOLDER ..            if FOLDER has a plan
        tournament play FILE.toml ..         tournament plan --help has its keys
 
@@ -149,7 +157,8 @@ usage: tournament plan FOLDER --engine NAME=CMD --engine NAME=CMD ..
            [--gauntlet NAME]
            [--seeds N] [--limit SECONDS] [--move-limit SECONDS]
            [--start-limit SECONDS] [--clock CLOCK] [--margin SECONDS]
-           [--openings FILE] [--direct] [--dry-run] [-- OPTION ..]
+           [--scorer CMD] [--openings FILE] [--direct] [--dry-run]
+           [-- OPTION ..]
        tournament plan FILE.toml ..
 
 Makes FOLDER and FOLDER/plan, plays nothing, and tries no engine. The arguments
@@ -229,6 +238,20 @@ damaged, and how many there are.
 
 status: 0  no result differs, and none is damaged
         1  some do, or something can't be read or written
+        2  usage error
+        141  nobody reads what it prints
+""",
+    "score": """\
+usage: tournament score FOLDER
+
+Has the scorer of FOLDER/plan score the games that ended by two passes and that
+it hasn't: those that were played before tournament play was given this
+--scorer, those of which the scorer was stopped, and those at which it failed.
+FOLDER/scores has a file for each game, with the dead stones and the verdict,
+or why there is none.
+
+status: 0  all of these games are scored
+        1  the scorer failed, or nothing can be written
         2  usage error
         141  nobody reads what it prints
 """,

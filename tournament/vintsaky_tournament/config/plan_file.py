@@ -5,7 +5,7 @@ WORD`, `seeds N`, `limit SECONDS`. For `between` it has `start-limit SECONDS`, `
 `clock CLOCK`, `margin SECONDS` and `opening MOVE ..`, or `direct` where that is left out. With
 `gauntlet NAME` this engine plays each other one, and no others play. A plan without `folder` is one
 of earlier scripts: its engines start in the working directory, and directly; it has none of the
-lines for `between`.
+lines for `between`. `scorer COMMAND` names the engine that finds dead stones.
 
 A line that begins with # is a comment, which stays above the line that it is above of.
 """
@@ -22,8 +22,8 @@ MOVE = "(?:[A-HJ-Z](?:[1-9]|1[0-9]|2[0-5])|pass)"
 OPENING = re.compile(f"{MOVE}(?: {MOVE})*")
 ELSEWHERE = "take another directory"
 LIMITS_OF_ANSWERS = ("move-limit", "start-limit", "clock", "margin")
-ONCE = ("folder", "gauntlet", "direct", *LIMITS_OF_ANSWERS, "seeds", "limit")
-CHANGED = ("start-limit", "seeds", "limit")  # of these lines the rest may change
+ONCE = ("folder", "gauntlet", "direct", *LIMITS_OF_ANSWERS, "scorer", "seeds", "limit")
+CHANGED = ("start-limit", "scorer", "seeds", "limit")  # of these lines the rest may change
 FOR_BETWEEN = ("direct", *LIMITS_OF_ANSWERS, "opening")
 
 
@@ -55,6 +55,8 @@ def add_line(plan: Plan, line: str, place: str) -> None:
         plan.clock = clock(f"clock of {place}", rest)
     elif kind == "margin":
         plan.margin = seconds(f"margin of {place}", rest)
+    elif kind == "scorer" and rest.strip(" "):
+        plan.scorer = rest
     elif kind == "opening" and OPENING.fullmatch(rest):
         plan.openings.append(rest)
     else:
@@ -147,9 +149,10 @@ def lines_of(plan: Plan) -> list[str]:
     """Returns all lines, without comments."""
     first = [] if plan.is_old() else [f"folder {plan.folder}"]
     limits = [f"start-limit {plan.start_limit}"] if plan.start_limit else []
+    scorer = [f"scorer {plan.scorer}"] if plan.scorer else []
     openings = [f"opening {moves}" for moves in plan.openings]
     last = [f"seeds {plan.seeds}", f"limit {plan.limit}"]
-    return [*first, *fixed_lines(plan), *limits, *openings, *last]
+    return [*first, *fixed_lines(plan), *limits, *scorer, *openings, *last]
 
 
 def with_comments(lines: list[str], before: bytes) -> list[str]:

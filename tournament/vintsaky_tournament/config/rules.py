@@ -3,6 +3,8 @@ handicap. twogtp plays by the same."""
 from __future__ import annotations
 
 import re
+from collections import Counter
+from typing import Iterable
 
 from ..model import COLUMNS
 
@@ -82,6 +84,30 @@ class Board:
                 for stone in () if has_liberty else stones:
                     self.points[stone] = EMPTY
         return None if self.chain(point)[1] else "it is suicide"
+
+    def remove(self, vertices: Iterable[str]) -> str | None:
+        """Removes the stones on these vertices. Returns the first that has none; then nothing
+        changes."""
+        points = {vertex: index(*column_and_row(vertex)) for vertex in vertices}
+        for vertex, point in points.items():
+            if self.points[point] not in (BLACK, WHITE):
+                return vertex
+        for point in points.values():
+            self.points[point] = EMPTY
+        return None
+
+    def area(self) -> int:
+        """Returns the points of Black's area less those of White's. Empty points are in that of the
+        only colour next to them and those that they are connected with."""
+        counts, seen = Counter(self.points), set()
+        for point, colour in enumerate(self.points):
+            if colour == EMPTY and point not in seen:
+                region, _ = self.chain(point)
+                seen |= region
+                around = {self.points[each] for at in region for each in neighbours(at)}
+                if len(around - {EMPTY, EDGE}) == 1:
+                    counts[(around - {EMPTY, EDGE}).pop()] += len(region)
+        return counts[BLACK] - counts[WHITE]
 
     def chain(self, point: int) -> tuple[set[int], bool]:
         """Returns the chain of the stone on a point, and whether it has a liberty."""

@@ -3,6 +3,7 @@ from __future__ import annotations
 
 import re
 
+from ..model import Engine
 from ..output import Mistake
 
 
@@ -17,6 +18,14 @@ def seconds(option: str, text: str) -> str:
     """Returns the seconds of an option, above 0 and as they are written."""
     if not re.fullmatch(r"[0-9]{1,7}(\.[0-9]{1,6})?", text) or not float(text):
         raise Mistake(f"{option} needs seconds above 0, such as 60 or 0.5, and not '{text}'")
+    return text
+
+
+def command(option: str, text: str) -> str:
+    """Returns the command of an option, which can be split into words."""
+    if "\n" in text:
+        raise Mistake(f"{option} needs a command of one line")
+    Engine("the scorer", text).words(is_direct=False)
     return text
 
 

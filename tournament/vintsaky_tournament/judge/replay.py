@@ -6,6 +6,7 @@ import os
 import signal
 from typing import Sequence
 
+from ..config.rules import as_vertex, column_and_row, handicap_points
 from ..config.setup import Setup
 from ..model import COLOURS, Result
 from ..play.trial import Asked, Failed, Refusal
@@ -40,8 +41,13 @@ class Replayer:
 
     def set_up(self, setup: Setup) -> None:
         """Sends the beginning of a game."""
+        points = handicap_points(setup.rows(), setup.stones())
         for command in setup.commands()[:-1]:
-            self.ask(command)
+            answer = self.ask(command)
+            if command.startswith("fixed_handicap"):
+                found = filter(None, map(as_vertex, answer.split()))
+                if sorted(map(column_and_row, found)) != sorted(points):
+                    raise Failed(f"it has another handicap: {answer!r}")
 
     def play(self, setup: Setup, result: Result) -> None:
         """Sends the moves of a game. Raises Failed at one that is refused, or is behind two

@@ -18,6 +18,7 @@ from ..model import NOT_STARTED, GameId, Outcome, Result, Side
 from ..store import results
 from ..store.layout import is_file
 from ..store.notes import waited_for
+from ..store.scores import is_by_score
 from . import process_tree, programs
 from .match import NotesFile, start_failure
 
@@ -28,6 +29,7 @@ if TYPE_CHECKING:
 
 GRACE = 2  # seconds for which engines may run on after their game, and twogtp at the limit
 SAME = 0.2  # seconds within which TERM reaches this process, where all processes get it
+FOREVER = 9999999  # seconds
 STOPPING = 1  # seconds in which all gets TERM at a stop, before it is killed
 ENDING = (signal.SIGTERM, signal.SIGINT, signal.SIGHUP)
 PLAYED, FAILED, USAGE, BROKEN = 0, 1, 2, 3  # the statuses of twogtp
@@ -130,6 +132,8 @@ class Game:
 
     def keep(self, result: Result, found: Notes | None) -> Outcome:
         """Keeps this result."""
+        if self.match.plan.scorer and is_by_score(result.verdict):
+            self.score(result)
         try:
             if self.notes and found:
                 self.notes.close(found, f"result: {result.line}")
@@ -142,6 +146,20 @@ class Game:
             return self.no_result(reason, Outcome.NO_SPACE)
         self.places.remove()
         return Outcome.RESULT
+
+    def score(self, result: Result) -> None:
+        """Has the scorer score the game, unless it is asked to end: the result counts anyway."""
+        from ..judge.scorer import score_here  # which isn't needed elsewhere
+
+        log = os.open(self.places.new_log, os.O_WRONLY | os.O_APPEND)
+        own, process = os.getpid(), os.fork()
+        if not process:
+            score_here(self.match, self.places.result, result, log, own)
+        os.close(log)
+        self.tree.awaited.add(process)
+        while process not in self.tree.ended and not self.is_stopped:
+            self.wait(FOREVER)
+        self.tree.end()
 
     def engine(self, side: Side) -> str:
         """Returns the name of an engine."""

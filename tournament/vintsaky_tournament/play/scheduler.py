@@ -114,7 +114,8 @@ class Play:
         """Returns whether less time is left than a game may take."""
         if self.until is None:
             return False
-        return time.monotonic() + (self.plan.limit or 0) + SPARE > self.until
+        scoring = float(self.plan.start_limit or 0) if self.plan.scorer else 0
+        return time.monotonic() + (self.plan.limit or 0) + scoring + SPARE > self.until
 
     def print(self, line: str) -> None:
         """Writes a line. Where nobody reads it any more the run is stopped, as other programs are.

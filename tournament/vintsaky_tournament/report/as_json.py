@@ -8,6 +8,7 @@ from typing import Any
 from ..model import Side
 from ..stats import scores
 from ..stats.pairs import PairCounts
+from ..stats.scored import Scored
 from ..stats.sprt import Test
 from ..stats.standings import Standings
 from ..stats.summary import EngineRow, PairingRow, Row, Summary, without_result
@@ -37,9 +38,23 @@ def json_of(summary: Summary, test: Test | None = None) -> str:
         "damaged": counts.damaged(),
         "no_result": dict(without_result(counts)),
     }
+    if counts.scored.scorer:
+        found["scorer"] = of_scored(counts.scored)
     if test:
         found["sprt"] = of_test(test)
     return f"{json.dumps(found)}\n"
+
+
+def of_scored(scored: Scored) -> dict[str, Any]:
+    """Returns how many games the scorer has scored, and why others weren't."""
+    return {
+        "command": scored.scorer,
+        "scored": scored.count,
+        "other_score": scored.other_score,
+        "other_winner": scored.other_winner,
+        "by_final_score": scored.by_final_score,
+        "not_scored": dict(scored.unscored),
+    }
 
 
 def of_engine(row: EngineRow, blames: dict[str, int]) -> dict[str, Any]:

@@ -9,6 +9,7 @@ from ..model import Side, Way
 from ..stats import scores
 from ..stats.endings import Rule
 from ..stats.pairs import PairCounts
+from ..stats.scored import Scored
 from ..stats.scores import Cluster
 from ..stats.sprt import Test
 from ..stats.summary import EngineRow, PairingRow, Row, Summary, without_result
@@ -117,6 +118,8 @@ class Table:
             yield f"out, and so in no pair: {said}"
         if counts.unknown and counts.rules.late is not counts.rules.abandoned:
             yield f"abandoned, and perhaps late, since there are no notes: {counts.unknown}"
+        if counts.scored.scorer:
+            yield from of_scored(counts.scored)
         if counts.restarted:
             yield f"games with a restart: {counts.restarted}"
 
@@ -135,6 +138,19 @@ class Table:
             yield f"  {name(first)}: {name(second)}{more}"
         if len(groups) > MOST_GROUPS:
             yield f"  and so on: {len(groups)} such games were played again"
+
+
+def of_scored(scored: Scored) -> Iterator[str]:
+    """Yields how many games the scorer has scored, how many of them otherwise than twogtp, and why
+    others weren't."""
+    other = f"{scored.other_score} otherwise than by twogtp, {scored.other_winner} of them with"
+    yield f"scored by the scorer: {scored.count}; {other} another winner"
+    if scored.by_final_score:
+        yield f"scored by its final_score, since it names no dead stones: {scored.by_final_score}"
+    if scored.unscored:
+        yield f"not scored, so that twogtp's verdict counts: {len(scored.unscored)}"
+        for game, reason in scored.unscored[:MOST_GROUPS]:
+            yield f"  {game}: {reason}"
 
 
 def names(row: EngineRow | PairingRow) -> str:

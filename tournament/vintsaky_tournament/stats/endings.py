@@ -6,6 +6,7 @@ from typing import NamedTuple
 
 from ..model import COLOURS, SIDES, Ending, Plan, Result, Way
 from ..store import notes
+from .scored import Scored
 
 WITHOUT_WINNER = {"0": Way.DRAWN, "limit": Way.LIMIT}
 
@@ -63,6 +64,7 @@ class Ended(NamedTuple):
 
     ending: Ending
     restarts: tuple[int, int]
+    verdict: str  # twogtp's, or that of a scorer
 
 
 class Endings:
@@ -72,17 +74,21 @@ class Endings:
         self.games, self.folder = plan.games(), folder
         self.losing = rules.ways(Rule.LOSES)
         self.is_direct = plan.is_direct
+        self.scored = Scored(plan, folder)
         self.known: dict[str, Ending] = {}  # of each verdict
         self.unknown = 0  # games in which a side was abandoned, and may have been late
 
     def of(self, game: int, result: Result) -> Ended:
         """Returns how the game of this number ended."""
-        ending = self.known.get(result.verdict)
+        verdict = result.verdict
+        if self.scored.scorer:
+            verdict = self.scored.verdict(self.games.name(game), result)
+        ending = self.known.get(verdict)
         if ending is None:
-            ending = self.known[result.verdict] = ending_of(result.verdict)
+            ending = self.known[verdict] = ending_of(verdict)
         if ending.way is Way.ABANDONED:
             return self.of_abandoned(game, result, ending)
-        return Ended(ending, result.restarts)
+        return Ended(ending, result.restarts, verdict)
 
     def of_abandoned(self, game: int, result: Result, ending: Ending) -> Ended:
         """Returns how a game ended in which a side was abandoned, by its notes."""
@@ -100,6 +106,6 @@ class Endings:
             black, white = black - found.ignored[0], white - found.ignored[1]
             way = Way.LATE if found.late[side] else way
             if found.out_of_time[side]:
-                return Ended(Ending(side.other, side, Way.TIME), (black, white))
+                return Ended(Ending(side.other, side, Way.TIME), (black, white), result.verdict)
         winner = side.other if way in self.losing else None
-        return Ended(Ending(winner, side, way), (black, white))
+        return Ended(Ending(winner, side, way), (black, white), result.verdict)

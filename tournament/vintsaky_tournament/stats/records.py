@@ -71,7 +71,7 @@ class Records:
         """Returns what is known of a game."""
         seed, at = divmod(game, len(self.games.sides))
         (black, white), name = self.games.sides[at], self.games.name(game)
-        ending, openings = self.endings.of(game, result).ending, self.plan.openings
+        (ending, _, verdict), openings = self.endings.of(game, result), self.plan.openings
         noted = self.from_notes(name, result)
         versions = self.versions_on(noted.host)
         return Record(
@@ -80,7 +80,7 @@ class Records:
             white=white,
             seed=seed + 1,
             opening=seed % len(openings) + 1 if openings else None,
-            verdict=result.verdict,
+            verdict=verdict,
             winner=None if ending.winner is None else ending.winner.colour,
             moves=result.length,
             black_seconds=noted.black_seconds,

@@ -37,7 +37,7 @@ class Counts:
         for game, result in results.of_all(plan, folder):
             self.states[game] = State.WHOLE if result else State.DAMAGED
             if result:
-                sides, (ending, restarts) = game % len(self.endings), endings.of(game, result)
+                sides, (ending, restarts) = game % len(self.endings), endings.of(game, result)[:2]
                 self.endings[sides][ending] = self.endings[sides].get(ending, 0) + 1
                 self.pairs.add(game, ending, result)
                 if any(restarts):
@@ -45,7 +45,7 @@ class Counts:
         self.all_endings: Counter[Ending] = Counter()
         for counted in self.endings:
             self.all_endings.update(counted)
-        self.unknown = endings.unknown
+        self.unknown, self.scored = endings.unknown, endings.scored
         self.have = self.states.count(State.WHOLE)
         self.find_logs()
 
