@@ -40,8 +40,8 @@ MISTAKES = {
     "game all 1_one_one": f"all/plan has no game '1_one_one': {NO_GAME}",
     "game all 01_one_two": f"all/plan has no game '01_one_two': {NO_GAME}",
     "paly x": (
-        "there is no command 'paly': write tournament play, plan, list, game, export, verify or "
-        "score"
+        "there is no command 'paly': write tournament play, plan, check, list, game, export, verify"
+        " or score"
     ),
     "score all": "all has no scorer: write tournament plan all --scorer CMD",
     "play all --scorer": (
@@ -292,6 +292,7 @@ FORMS = ["--pgn", "--csv", "--jsonl", "--sgf"]
         ("tournament", OF_PLAY, OF_GAMES),
         ("tournament play", OF_PLAY, OF_GAMES),
         ("tournament plan", [*OF_PLAN, "--dry-run"], ["0", "1", "2"]),
+        ("tournament check", [*OF_PLAN, "--jobs"], ["0", "1", "2", "69", "130, 143"]),
         ("tournament list", ["--all"], ["0", "1", "2", "141"]),
         ("tournament game", [], OF_GAMES),
         ("tournament export", [*FORMS, *OF_LOSSES], ["0", "1", "2", "141"]),

@@ -46,6 +46,13 @@ def export(arguments: Arguments) -> int:
     return do_export(arguments)
 
 
+def check(arguments: Arguments) -> int:
+    """Checks a plan before it is played, and returns the status."""
+    from .check import do_check
+
+    return do_check(arguments)
+
+
 def verify(arguments: Arguments) -> int:
     """Replays all games, and returns the status."""
     from .verify import do_verify
@@ -64,6 +71,7 @@ def score(arguments: Arguments) -> int:
 COMMANDS: dict[str, Callable[[Arguments], int]] = {
     "play": play,
     "plan": plan,
+    "check": check,
     "list": list_games,
     "game": game,
     "export": export,

@@ -41,6 +41,9 @@ OF_PLAN: Options = {
     "--gauntlet": Option("an engine's NAME", "--gauntlet new"),
     **OF_PLAY,
 }
+OF_CHECK: Options = {
+    name: option for name, option in OF_PLAN.items() if name == "--jobs" or name not in OF_PLAY
+}
 OF_LOSSES: Options = {
     name: Option("half, out or loses", f"{name} half") for name in ("--abandoned", "--late")
 }
@@ -61,6 +64,7 @@ OF_EXPORT: Options = {
 OPTIONS: Mapping[str, Options] = {
     "play": OF_PLAN,
     "plan": OF_PLAN,
+    "check": OF_CHECK,
     "list": {"--all": None},
     "game": {},
     "export": OF_EXPORT,
@@ -93,7 +97,7 @@ class Arguments:
     def __init__(self, command: str, words: Sequence[str]) -> None:
         self.command, self.known = command, OPTIONS[command]
         self.program = command if command == "tally" else f"tournament {command}"
-        self.has_plan = self.known is OF_PLAN
+        self.has_plan = "--engine" in self.known
         self.places: list[str] = []
         self.options: list[Given] = []
         self.after: list[str] | None = None

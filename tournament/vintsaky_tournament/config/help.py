@@ -7,6 +7,7 @@ usage: tournament play FOLDER --engine NAME=CMD --engine NAME=CMD ..
        tournament play FOLDER [--again]     goes on with the plan in FOLDER
        tournament play FILE.toml            plays the plan of a file
        tournament plan FOLDER --engine ..   writes FOLDER/plan, plays nothing
+       tournament check FOLDER ..           tries engines, estimates the time
        tournament list FOLDER [--all]       lists games without a result, or all
        tournament game FOLDER GAME          plays one game
        tournament export FOLDER --csv       exports results for other programs
@@ -77,6 +78,8 @@ Python needs the package tomli to read such a file.
 PLAY = """\
   --jobs N           play N games at once; a plan doesn't keep N [the number of
                      processors]
+"""
+MORE_OF_PLAY = """\
   --again            play games with an unfit or abandoned side again, and try
                      their engines again
   --task K/T         play only the games K, K+T, K+2T .. of the plan
@@ -123,7 +126,7 @@ LOSSES = """\
                      [as --abandoned says]
 """
 HELP: dict[str | None, str] = {
-    None: "\n".join([HEAD, PLAN + PLAY + DRY_RUN + OPTION, FILES, STATUS]),
+    None: "\n".join([HEAD, PLAN + PLAY + MORE_OF_PLAY + DRY_RUN + OPTION, FILES, STATUS]),
     "play": "\n".join(
         [
             """\
@@ -145,7 +148,7 @@ command, the whole plan is played. New engines are added to a plan only if each
 of them can be started on this machine. Each minute, and in a terminal each ten
 seconds, a line on standard error shows the progress.
 """,
-            PLAN + PLAY + DRY_RUN + OPTION,
+            PLAN + PLAY + MORE_OF_PLAY + DRY_RUN + OPTION,
             FILES,
             STATUS,
         ]
@@ -171,6 +174,29 @@ more engines after the others, or another limit.
 status: 0  FOLDER/plan is as the arguments say
         1  FOLDER/plan can't be written
         2  usage error, or FOLDER/plan has other engines or options
+""",
+        ]
+    ),
+    "check": "\n".join(
+        [
+            """\
+usage: tournament check FOLDER ..            has the options of tournament plan
+       tournament check FILE.toml
+
+Checks a plan before it is played, and changes nothing in FOLDER. Each engine is
+started, set up as for a game and asked for a move, its name and its version.
+Each two engines that play each other play a game of 20 moves behind the
+opening. Then it is said how long all games without a result take, if they have
+as many moves as the board has points, and how wide the interval of the
+difference in Elo is in the end.
+""",
+            PLAN + PLAY + OPTION,
+            """\
+status: 0  all engines played
+        1  a game has no result, or a side was unfit or abandoned
+        2  usage error; nothing was played
+        69  an engine can't be started on this machine
+        130, 143  stopped by Ctrl-C; by TERM or HUP
 """,
         ]
     ),

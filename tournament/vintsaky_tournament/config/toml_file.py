@@ -15,7 +15,7 @@ from typing import Any, Callable, Iterator, Mapping, NamedTuple, Sequence
 
 from ..model import Plan
 from ..output import Mistake
-from .arguments import OF_PLAN, OF_PLAY, OF_TWOGTP, Arguments, Option
+from .arguments import OF_PLAN, OF_PLAY, OF_TWOGTP, OPTIONS, Arguments, Option
 
 ENDING = ".toml"
 Table = Mapping[str, Any]
@@ -136,7 +136,7 @@ def before_dashes(table: Table, command: str, place: str) -> Iterator[str]:
         yield f"--engine={engine}={engine_command}"
     for key, value in table.items():
         option = f"--{key}"
-        if option in OF_PLAN and not (option in OF_PLAY and command == "plan"):
+        if option in OPTIONS[command] and not (option in OF_PLAY and command == "plan"):
             values = values_of(key, value, OF_PLAN[option])
             if key == "openings":
                 values = [os.path.join(directory, *values)]

@@ -1,0 +1,82 @@
+"""The command `tournament check`."""
+from __future__ import annotations
+
+import math
+import shutil
+import tempfile
+
+from .. import output
+from ..config.arguments import Arguments, processors
+from ..config.values import number
+from ..model import Plan
+from ..output import STDOUT, NoStart
+from ..play.check import Check, Sample, opening_length, seconds_of_games, usual_length
+from ..play.known import NO_START
+from ..play.progress import as_text
+from .dry_run import names_of
+from .play import prepare, with_file
+
+ELO = 480  # half of the interval's width after one pair, about
+
+
+def do_check(arguments: Arguments) -> int:
+    """Checks a plan, and returns the status. What the games have written is kept where something is
+    wrong."""
+    arguments = with_file(arguments)
+    prepared = prepare(arguments)
+    plan, folder = prepared.folder.plan, prepared.folder.place
+    jobs = arguments.last("--jobs", number) or processors()
+    if prepared.warning:
+        output.report(prepared.warning)
+    place, status = tempfile.mkdtemp(prefix="tournament."), 1
+    try:
+        check = Check(plan, place, prepared.twogtp, jobs)
+        samples = played(check)
+        if check.run.stopped:
+            status = check.run.stop_status()
+        elif all(sample.is_right() for sample in samples):
+            say_time(plan, samples, names_of(plan, folder, None, False), jobs)
+            status = 0
+    except NoStart as problem:
+        output.report(problem.text)
+        status = NO_START
+    if status in (1, NO_START):
+        output.report(f"what was written is in {place}")
+    else:
+        shutil.rmtree(place)
+    return status
+
+
+def played(check: Check) -> list[Sample]:
+    """Tries the engines, plays the short games, and returns these. A line is printed for each."""
+    for name, version in check.try_engines().items():
+        output.write(STDOUT, f"{name}: {version or 'it started'}\n")
+    samples = []
+    for sample in check.play():
+        if sample.result:
+            line = f"{sample.name}: {sample.result.line}, in {sample.seconds:.1f} seconds"
+            output.write(STDOUT, f"{line}\n")
+        samples.append(sample)
+    return samples
+
+
+def say_time(plan: Plan, samples: list[Sample], names: list[str], jobs: int) -> None:
+    """Says how long the games take that have no result, and what is known after them."""
+    opening, length = opening_length(plan), usual_length(plan)
+    longest = max(samples, key=lambda sample: sample.estimate(opening, length))
+    seconds = longest.estimate(opening, length)
+    if seconds > (plan.limit or 0):
+        output.report(
+            f"a game such as {longest.name} may take {seconds:.0f} seconds, and --limit is "
+            f"{plan.limit}: raise it"
+        )
+    minutes = seconds_of_games(plan, samples, names) / jobs / 60
+    many = f"{len(names)} game{'s' if len(names) != 1 else ''}"
+    time = as_text(minutes) if minutes >= 1 else "less than 1 min"
+    width = ELO / math.sqrt(plan.seeds or 1)
+    pairs = f"{plan.seeds} pair{'s' if plan.seeds != 1 else ''}"
+    output.write(
+        STDOUT,
+        f"{many} of about {length} moves, {jobs} at once: {time}\n"
+        f"after {pairs} of two engines the interval is about {width:.0f} Elo wide on each side\n",
+    )
