@@ -105,6 +105,17 @@ def test_plan_that_is_made_again(runner: Runner) -> None:
     assert done == (0, "4 of 4 games have a result\n", "")
 
 
+def test_plan_in_a_file(runner: Runner) -> None:
+    text = block("[engines.a]").replace("size = 9", "size = 2").replace("= 20", "= 1")
+    runner.write("night.toml", text.replace('".."', '"gtp_engine"'))
+    if "tomli" in (done := runner.tournament("play", "night.toml")).errors:
+        pytest.skip("this Python reads no TOML")
+    assert done[::2] == (0, "")
+    assert sorted(runner.games("night")) == ["1_a_b", "1_b_a"]
+    plan = (runner.folder / "night/plan").read_text().splitlines()
+    assert plan[-4:] == ["move-limit 30", "start-limit 60", "seeds 1", "limit 7200"]
+
+
 def test_run_that_survives_a_logout(runner: Runner) -> None:
     runner.script("waits", "until [ -e go ]; do sleep 0.1; done; exec gtp_engine")
     runner.tournament("plan", "night", *engines(one="./waits", two="gtp_engine"), *TINY)
