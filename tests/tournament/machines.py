@@ -8,10 +8,11 @@ import pytest
 from .runner import Runner
 
 # On each machine its own bin comes first in PATH, if there is one. The machine gone can't be
-# reached, and on bare there is no engine.
+# reached, nor can silent, of which ssh says nothing, and on bare there is no engine.
 SSH = """\
 echo "$*" >> {folder}/reached
-while [[ $1 == -* ]]; do [[ $1 != -[lp] ]] || shift; shift; done
+while [[ $1 == -* ]]; do [[ $1 != -[lpo] ]] || shift; shift; done
+[ "$1" != silent ] || exit 255
 [ "$1" != gone ] || { echo "ssh: no route to gone" >&2; exit 255; }
 cd "{folder}/$1" || exit 255
 [ "$1" != bare ] || PATH=$PWD/bin:/usr/bin:/bin

@@ -43,6 +43,14 @@ MISTAKES = {
         "there is no command 'paly': write tournament play, plan, check, list, game, export, verify"
         " or score"
     ),
+    "play x --engine all=cat --engine b=cat": (
+        "all is what a tally names all others together: give it another name"
+    ),
+    "play all --concurrency 4": "play has no option --concurrency: it is --jobs",
+    "play all --rounds=4": "play has no option --rounds: it is --seeds",
+    "list all --concurrency": (
+        "list has no option --concurrency: tournament list --help has those that it has"
+    ),
     "score all": "all has no scorer: write tournament plan all --scorer CMD",
     "play all --scorer": (
         "--scorer needs CMD after it, such as --scorer 'gnugo --mode gtp --chinese-rules'"
@@ -228,6 +236,22 @@ def test_option_that_twogtp_refuses(planned: Runner) -> None:
     line = f"{planned.environment['TWOGTP']} doesn't play with the options '--black cat': status 2"
     assert (done.status, done.errors.splitlines()[-1]) == (2, f"tournament: {line}")
     assert not (planned.folder / "x").exists()
+
+
+def test_twogtp_that_is_killed_is_no_usage_error(planned: Runner) -> None:
+    place = planned.script("killed", "kill -9 $$")
+    environment = {**planned.environment, "TWOGTP": str(place)}
+    done = planned.tournament("plan", "x", *PLAN, env=environment)
+    line = f"{place} was ended by signal 9 when its options were tried: give the command again"
+    assert done == (1, "", f"tournament: {line}\n")
+    assert not (planned.folder / "x").exists()
+
+
+@pytest.mark.parametrize("option", ["--version", "-V"])
+def test_version_is_that_of_the_programs(option: str, planned: Runner) -> None:
+    version = planned.run("twogtp", "--version").output.replace("twogtp", "")
+    assert planned.tournament(option) == (0, f"tournament{version}", "")
+    assert planned.tally(option) == (0, f"tally{version}", "")
 
 
 # ---- options

@@ -104,6 +104,12 @@ REACHED = {
         f"{MACHINES}# gone left: ssh: no route to gone\n",
         f"{MACHINES}gone\n",
     ),
+    "a machine of which ssh says nothing": Reached(
+        ["silent", "true"],
+        Done(255, "", ""),
+        f"{MACHINES}# silent left: it can't be reached\n",
+        f"{MACHINES}silent\n",
+    ),
     "the last machine": Reached(
         ["one", "exit", "69"], Done(69, "", ""), "# all\n4/one\n", "# all\n4/one\n"
     ),
@@ -122,6 +128,17 @@ def test_machine(reached: Reached, runner: Runner) -> None:
     assert file.read_text() == reached.file
     # GNU Parallel reads a file again that is later by seconds
     assert (file.stat().st_mtime - before > 1) == (reached.file != reached.before)
+
+
+@pytest.mark.parametrize("own", [[], ["-p", "22", "-o", "ServerAliveInterval=3"]])
+def test_machine_asks_ssh_to_notice_a_machine_that_freezes(own: List[str], runner: Runner) -> None:
+    use_parallel(runner)
+    (runner.folder / "one").mkdir()
+    runner.write("list", MACHINES)
+    assert runner.run("machine", "list", *own, "one", "echo", "hello").output == "hello\n"
+    reached = (runner.folder / "reached").read_text()
+    # of an option that is there twice ssh takes the first
+    assert reached.split() == [*own, "-o", "ServerAliveInterval=15", "one", "echo", "hello"]
 
 
 @pytest.mark.parametrize("words", ["", "list", "nowhere one true", "list -p 22"])

@@ -13,3 +13,5 @@ cli         a module for each command
 processes   how a program is started, and how all processes below are ended
 output      how texts are written, and the errors that are reported
 """
+
+VERSION = "1.0"  # that of the programs

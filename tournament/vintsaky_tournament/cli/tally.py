@@ -5,7 +5,7 @@ import gc
 import re
 from typing import Sequence
 
-from .. import output
+from .. import VERSION, output
 from ..config.arguments import Arguments
 from ..config.plan_file import read_plan
 from ..model import Plan
@@ -67,6 +67,9 @@ def is_left_out(name: str, value: str) -> bool:
 
 def main(words: Sequence[str]) -> int:
     """Writes the tally of a folder, and returns the status."""
+    if words and words[0] in ("-V", "--version"):
+        output.write(output.STDOUT, f"tally {VERSION}\n")
+        return 0
     arguments = Arguments("tally", words)
     if arguments.is_help:
         from ..config.help import HELP

@@ -3,7 +3,7 @@ from __future__ import annotations
 
 from typing import TYPE_CHECKING, Sequence
 
-from .. import output
+from .. import VERSION, output
 from ..config.arguments import Arguments
 from ..output import STDERR, STDOUT, Mistake
 
@@ -84,6 +84,9 @@ def main(words: Sequence[str]) -> int:
     """Does what the arguments ask for, and returns the status."""
     if not words or words[0] in ("-h", "--help"):
         return show_help(None, STDOUT if words else STDERR, 0 if words else 2)
+    if words[0] in ("-V", "--version"):
+        output.write(STDOUT, f"tournament {VERSION}\n")
+        return 0
     name = words[0]
     if name not in COMMANDS:
         *others, last = COMMANDS

@@ -83,6 +83,10 @@ OF_TWOGTP = {
 OTHERS_OF_TWOGTP = ("--record", "--show", "--why", "--games", "--black", "--white")
 
 
+# options that other programs for tournaments have, and what they are here
+ELSEWHERE = {"--concurrency": "--jobs", "--threads": "--jobs", "--rounds": "--seeds"}
+
+
 class Given(NamedTuple):
     """An option that is given, with its values."""
 
@@ -142,6 +146,8 @@ class Arguments:
                 f"{name} is an option of twogtp: these come last, after --, such as: "
                 f"{self.program} FOLDER .. -- {name} .."
             )
+        if ELSEWHERE.get(name) in self.known:
+            return f"{self.command} has no option {name}: it is {ELSEWHERE[name]}"
         import difflib  # which isn't needed elsewhere
 
         close = difflib.get_close_matches(name, list(self.known), 1)

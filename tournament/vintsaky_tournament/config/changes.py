@@ -12,6 +12,7 @@ from .setup import Setup
 
 SEEDS, LIMIT, START_LIMIT = 10, 600, "60"  # of a plan that doesn't say otherwise
 MOST_SECONDS = 9999999  # of a limit
+SUM = "all"  # in a tally, so no engine is named so; one of an earlier plan may be
 TWO_ENGINES = "name two engines or more: --engine NAME=CMD --engine NAME=CMD"
 
 
@@ -52,6 +53,8 @@ def plan_for(asked: Plan, is_given: bool, place: str) -> Folder:
     plan.limit = asked.limit or plan.limit or default_limit(plan)
     plan.start_limit = asked.start_limit or plan.start_limit
     plan.scorer = asked.scorer or plan.scorer
+    if SUM in folder.added:
+        raise Mistake(f"{SUM} is what a tally names all others together: give it another name")
     check(plan)
     return folder
 

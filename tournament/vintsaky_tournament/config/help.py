@@ -14,6 +14,7 @@ usage: tournament play FOLDER --engine NAME=CMD --engine NAME=CMD ..
        tournament verify FOLDER             replays each game by gtp_engine
        tournament score FOLDER              scores games that --scorer hasn't
        tournament COMMAND --help            explains one command
+       tournament --version
 """
 PLAN = """\
   --engine NAME=CMD  an engine and its command, split at spaces; quote what has
@@ -285,6 +286,7 @@ status: 0  all of these games are scored
 usage: tally FOLDER [--abandoned half|out|loses] [--late half|out|loses]
            [--no-winner half|out] [--sprt ELO0 ELO1 [--between NAME NAME]]
            [--json]
+       tally --version
 
 Counts the results of a directory that tournament made. With three engines or
 more it rates them in Elo by maximum likelihood, from the mean of all, with 95 %

@@ -101,6 +101,9 @@ def try_options(twogtp: str, options: Sequence[str]) -> None:
         )
     engines = ["--black", "true", "--white", "true"]
     printed = printed_by([twogtp, "--why", "--record", *engines, *options])
+    if printed.status < 0:
+        reason = f"{twogtp} was ended by signal {-printed.status} when its options were tried"
+        raise OSError(0, f"{reason}: give the command again")
     if printed.status != 1 or "game 1: abandoned black" not in printed.text:
         raise Mistake(
             f"{twogtp} doesn't play with the options '{' '.join(options)}': status "
