@@ -9,6 +9,8 @@ from typing import Any, Dict, List, Optional
 
 import pytest
 
+from tests.references.engine import values
+
 from .exported import ABANDONED_LOSES, BOARD, GAMES, MISSING, write_games
 from .runner import Runner, engines
 from .written import write_plan, write_result
@@ -118,6 +120,32 @@ def test_points_of_a_large_board_in_sgf(runner: Runner) -> None:
     runner.tournament("export", "all", "--sgf", "records")
     record = runner.files("records")["1_a_b.sgf"]
     assert record.endswith("\n;B[ay];W[ya];B[iq];W[])\n")
+
+
+HANDICAPS = [
+    (size, stones)
+    for size in (7, 8, 9, 13, 19)
+    for stones in range(2, 10)
+    if values.handicap_points(size, stones)
+]
+
+
+@pytest.mark.parametrize("size, stones", HANDICAPS)
+def test_handicap_stones_in_sgf(size: int, stones: int, runner: Runner) -> None:
+    # which are also those of the board on which openings are judged
+    options = [f"option --size={size}", f"option --handicap={stones}"]
+    write_plan(runner.folder / "all", "ab", 1, *options)
+    write_result(runner.folder / "all", "1_a_b", "B+R moves 1 restarts 0 0", "pass")
+    runner.tournament("export", "all", "--sgf", "records")
+    record = runner.files("records")["1_a_b.sgf"]
+    found = re.search(r"AB((?:\[\w\w\])+)\n;W\[\]\)", record)
+    assert found
+    letters = "abcdefghijklmnopqrs"[:size]
+    points = [
+        f"[{letters[column - 1]}{letters[-row]}]"
+        for column, row in values.handicap_points(size, stones) or []
+    ]
+    assert sorted(re.findall(r"\[\w\w\]", found[1])) == sorted(points)
 
 
 def tags_in(output: str) -> List[Dict[str, str]]:
