@@ -150,6 +150,16 @@ def test_engine_is_told_between_clear_board_and_the_moves_of_before(runner: Runn
     ]
 
 
+def test_opening_costs_nothing_and_engine_is_told_of_the_clock_before_it(runner: Runner) -> None:
+    between = begin(runner, PLAIN, "D4", clock="absolute 600", opening="C3 G7")
+    commands = f"{BEGIN}, 4 genmove b, 5 play w G7, 6 genmove b, 7 quit"
+    assert talk(between, commands).output.split("\n\n")[3:6] == ["=4 C3", "=5 ", "=6 D4"]
+    assert heard(runner)[4:] == [
+        *["time_settings 600 0 0", "4 play b C3", "5 play w G7"],
+        *["time_left b 600 0", "6 genmove b", "7 quit"],
+    ]
+
+
 # ---- what is charged
 
 
@@ -242,7 +252,7 @@ def test_engine_out_of_time_is_ended_and_not_started_again(runner: Runner) -> No
     said = "between: black: out of time at '4 genmove b'\n"
     assert talk(between, f"{BEGIN}, 4 genmove b") == (124, "=1 \n\n=2 \n\n=3 \n\n", said)
     assert between.notes()[1:] == ["0 black started S", *thinks_and_is_out("4 genmove b")]
-    again = talk(between, "1 boardsize 9")
+    again = between.run("1 boardsize 9\n2 quit\n")
     assert again == (124, "", "between: black: it was late, and isn't started again\n")
 
 
