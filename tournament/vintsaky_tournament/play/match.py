@@ -21,6 +21,7 @@ if TYPE_CHECKING:
 # what `between` needs, in the order in which one imports another, and first the packages
 PACKAGES = ("", ".relay")
 MODULES = (".processes", ".relay.conversation", ".relay.between")
+LOADER = ".relay.loader"
 OF_CLOCKS = (".relay.clock", ".relay.timing")
 PACKAGE = __name__.split(".")[0]
 ANNOTATIONS = b"from __future__ import annotations\n"
@@ -85,19 +86,23 @@ class Match:
 
 
 def compiled(names: Sequence[str]) -> bytes:
-    """Returns these modules, without what costs `between` time at its start: docstrings, and the
-    import by which annotations aren't evaluated, of which the compiler is told here."""
+    """Returns what loads modules, and these modules."""
+    packages: list[tuple[str, CodeType | None]] = [(PACKAGE + name, None) for name in PACKAGES]
+    modules = [(PACKAGE + name, code_of(PACKAGE + name)) for name in names]
+    return marshal.dumps((code_of(PACKAGE + LOADER), [*packages, *modules]))
+
+
+def code_of(module: str) -> CodeType:
+    """Returns the code of a module, without what costs `between` time at its start: docstrings, and
+    the import by which annotations aren't evaluated, of which the compiler is told here."""
     import __future__
 
+    place = f"{programs.HERE}/{module.replace('.', '/')}.py"
+    with open(place, "rb") as file:
+        source = file.read().replace(ANNOTATIONS, b"\n")
     flags = __future__.annotations.compiler_flag
-    modules: list[tuple[str, CodeType | None]] = [(PACKAGE + name, None) for name in PACKAGES]
-    for module in names:
-        name = PACKAGE + module
-        place = f"{programs.HERE}/{name.replace('.', '/')}.py"
-        with open(place, "rb") as file:
-            source = file.read().replace(ANNOTATIONS, b"\n")
-        modules.append((name, compile(source, place, "exec", flags, dont_inherit=True, optimize=2)))
-    return marshal.dumps(modules)
+    code: CodeType = compile(source, place, "exec", flags, dont_inherit=True, optimize=2)
+    return code
 
 
 class NotesFile:
