@@ -183,6 +183,10 @@ MISTAKES_OF_TALLY = {
         "--between needs two engines' NAMEs after it, such as --between new old"
     ),
     "three --between three one": ("--between is for a test: write --sprt 0 10 --between three one"),
+    "all --alpha 0.05": "--alpha is for a test: write --sprt 0 10",
+    "all --sprt 0 10 --beta 5": (
+        "--beta needs a number from 0.001 to 0.25, such as --beta 0.05, and not '5'"
+    ),
     "all --no-winner loses": "--no-winner needs half or out after it, and not 'loses'",
     "all --abandoned lose": "--abandoned needs half, out or loses after it, and not 'lose'",
 }
@@ -303,9 +307,10 @@ def test_options_that_a_plan_does_not_keep(
 
 OF_PLAN = ["--engine", "--seeds", "--gauntlet", "--limit", "--move-limit", "--start-limit"]
 OF_PLAN += ["--clock", "--margin", "--scorer", "--openings", "--direct"]
-OF_PLAY = [*OF_PLAN, "--jobs", "--again", "--task", "--time-left", "--dry-run"]
+OF_TEST = ["--sprt", "--between", "--alpha", "--beta"]
+OF_PLAY = [*OF_PLAN, "--jobs", "--again", "--task", "--time-left", *OF_TEST, "--dry-run"]
 OF_LOSSES = ["--abandoned"] * 3 + ["--late"]
-OF_TALLY = [*OF_LOSSES, "--no-winner", "--no-winner", "--sprt", "--between", "--json"]
+OF_TALLY = [*OF_LOSSES, "--no-winner", "--no-winner", *OF_TEST, "--json"]
 OF_GAMES = ["0", "1", "2", "69", "130, 143", "141"]
 FORMS = ["--pgn", "--csv", "--jsonl", "--sgf"]
 

@@ -36,51 +36,34 @@ def write_games(runner: Runner, pairs: Iterable[Sequence[str]]) -> None:
     runner.tournament("plan", "night", *words, "--seeds", "1")
     for seed, pair in enumerate(pairs, 1):
         for sides, winner in zip(("one_two", "two_one"), pair):
-            text = "abandoned black moves 0 restarts 2 0\n"
-            if winner in MOVES:
-                count = len(MOVES[winner].split())
-                text = f"{winner}+R moves {count} restarts 0 0\n{MOVES[winner]}"
+            count = len(MOVES[winner].split())
+            text = f"{winner}+R moves {count} restarts 0 0\n{MOVES[winner]}"
             runner.write(f"night/games/{seed}_{sides}", f"game 1: {text}\n")
 
 
-# ---- the loop that plays while a test needs more games; all games are there, so none is played
+# ---- a run that ends with a test; what decides is there, so nothing is played
 
-LOOP = block("for ((seeds")
 ONE_WINS, BLACK_WINS = ("B", "W"), ("B", "B")
-ABANDONED = ("abandoned", "B")
 MANY = [ONE_WINS, ONE_WINS, BLACK_WINS] * 50
+OTHERWISE = [pair[::-1] if pair == ONE_WINS else pair for pair in MANY]
 
 
-@pytest.mark.parametrize(
-    "pairs, loop, last, count",
+@pytest.mark.parametrize(  # by R, as in test_sprt.py
+    "pairs, accepted, seed, status",
     [
-        pytest.param(MANY, LOOP, "one - two: 10 Elo", 4, id="accepted after 150 seeds"),
-        pytest.param(
-            [pair[::-1] if pair == ONE_WINS else pair for pair in MANY],
-            LOOP,
-            "one - two: 0 Elo",
-            4,
-            id="the other one",
-        ),
-        pytest.param(
-            [ABANDONED, *MANY], LOOP, "200 of 200 games have a result", 1, id="an abandoned side"
-        ),
-        pytest.param(
-            [BLACK_WINS] * 200,
-            LOOP.replace("5000", "200"),
-            "one - two: go on: 200 pairs (0 unlike most; at least 10 are needed), log",
-            6,
-            id="the last seeds",
-        ),
+        pytest.param(MANY, "10 Elo accepted, not 0 Elo", 104, 0, id="accepted"),
+        pytest.param(OTHERWISE, "0 Elo accepted, not 10 Elo", 101, 3, id="the other one"),
     ],
 )
-def test_loop_of_a_test(
-    pairs: List[Tuple[str, str]], loop: str, last: str, count: int, runner: Runner
+def test_run_that_ends_with_a_test(
+    pairs: List[Tuple[str, str]], accepted: str, seed: int, status: int, runner: Runner
 ) -> None:
     write_games(runner, pairs)
-    lines = runner.shell(loop).output.splitlines()
-    assert lines[-1].startswith(last)
-    assert len(lines) == count
+    done = runner.shell(block("--sprt"))
+    line = done.output.splitlines()[-1]
+    assert (done.status, done.errors) == (0, "")
+    assert line.startswith(f"one - two: {accepted}, at the pair of seed {seed}: ")
+    assert runner.tally("night", "--sprt", "0", "10") == (status, f"{line}\n", "")
 
 
 # ---- other commands

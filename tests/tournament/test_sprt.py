@@ -7,8 +7,9 @@ from typing import Dict, List, Optional, Sequence, Tuple
 
 import pytest
 
+from .inside import module
 from .runner import Runner
-from .written import ENDED, EVEN, LOST, WON, Pair, pairs_of, write_pairs, write_plan, write_results
+from .written import ENDED, EVEN, LOST, WON, Pair, write_pairs, write_plan, write_results
 
 Counts = Tuple[int, int, int, int, int]
 Differences = Tuple[float, float]
@@ -16,6 +17,10 @@ MANY: Counts = (10, 20, 40, 30, 20)
 # 50 pairs: 30 won, 15 even and 5 lost
 SOME = [WON, WON, EVEN, WON, LOST, WON, EVEN, WON, EVEN, WON] * 5
 OTHERWISE = [WON if pair is LOST else LOST if pair is WON else EVEN for pair in SOME]
+
+
+scores = module("stats.scores")
+STATUSES = {1: 0, 0: 3, None: 4}  # of a tally, by what is accepted
 
 
 def sprt(differences: Differences) -> List[str]:
@@ -40,10 +45,8 @@ def sprt(differences: Differences) -> List[str]:
     ],
     ids=str,
 )
-def test_ratio(counts: Counts, differences: Differences, ratio: float, runner: Runner) -> None:
-    write_pairs(runner.folder / "all", pairs_of(counts))
-    found = json.loads(runner.tally("all", *sprt(differences), "--json").output)["sprt"]
-    assert found["ratio"] == pytest.approx(ratio, rel=1e-9)
+def test_ratio(counts: Counts, differences: Differences, ratio: float) -> None:
+    assert scores.ratio(counts, *differences) == pytest.approx(ratio, rel=1e-9)
 
 
 # The first three are by Newton's method to 40 digits. The others have shares in a closed form:
@@ -63,13 +66,8 @@ def test_ratio(counts: Counts, differences: Differences, ratio: float, runner: R
     ],
     ids=str,
 )
-def test_exact_ratio(
-    counts: Counts, differences: Differences, ratio: float, off: float, runner: Runner
-) -> None:
-    write_pairs(runner.folder / "all", pairs_of(counts))
-    words = ["--sprt", *(f"{elo:.3f}" for elo in differences)]
-    found = json.loads(runner.tally("all", *words, "--json").output)["sprt"]
-    assert found["exact"] == pytest.approx(ratio, abs=off)
+def test_exact_ratio(counts: Counts, differences: Differences, ratio: float, off: float) -> None:
+    assert scores.exact_ratio(counts, *differences) == pytest.approx(ratio, abs=off)
 
 
 # ---- what is accepted
@@ -104,16 +102,87 @@ def test_exact_ratio(
     ],
     ids=str,
 )
-def test_decision(counts: Counts, differences: Differences, status: int, runner: Runner) -> None:
-    write_pairs(runner.folder / "all", pairs_of(counts))
-    assert runner.tally("all", *sprt(differences)).status == status
+def test_decision(counts: Counts, differences: Differences, status: int) -> None:
+    assert STATUSES[scores.decision(counts, *differences)] == status
+
+
+# By R the first pair from the 16th on, of which 10 are unlike most, at which both ratios have
+# passed the same bound: ln((1 - beta) / alpha) or ln(beta / (1 - alpha)). Only their last digits
+# decide, 2.96497 at 74 for example, and 2.95151 at 69, where ln(19) is 2.94444.
+@pytest.mark.parametrize("seeds", [200, 150], ids=["200 pairs", "150 pairs"])
+@pytest.mark.parametrize(
+    "pairs, words, seed, counts, status",
+    [
+        (SOME, "0 20", 74, [7, 0, 22, 0, 45], 0),
+        (OTHERWISE, "0 20", 69, [41, 0, 21, 0, 7], 3),
+        (SOME, "0 20 --alpha 0.01", 118, [12, 0, 35, 0, 71], 0),
+        (OTHERWISE, "0 20 --alpha 0.01", 70, [42, 0, 21, 0, 7], 3),
+        (SOME, "0 20 --beta=.01", 78, [8, 0, 23, 0, 47], 0),
+        (OTHERWISE, "0 20 --beta=.01", 107, [64, 0, 32, 0, 11], 3),
+        (SOME, "0 20 --alpha 0.2", 40, [4, 0, 12, 0, 24], 0),
+        (OTHERWISE, "0 20 --beta 0.2", 38, [23, 0, 11, 0, 4], 3),
+        (SOME, "0 100", 25, [3, 0, 7, 0, 15], 0),
+    ],
+)
+def test_test_is_over_at_the_first_pair_that_decides(
+    pairs: List[Pair],
+    words: str,
+    seed: int,
+    counts: List[int],
+    status: int,
+    seeds: int,
+    runner: Runner,
+) -> None:
+    # what is played later doesn't reopen it
+    write_pairs(runner.folder / "all", (pairs * 4)[:seeds])
+    done = runner.tally("all", "--json", "--sprt", *words.split())
+    found = json.loads(done.output)["sprt"]
+    assert (found["seed"], found["pairs"], done.status) == (seed, counts, status)
+
+
+def test_later_pairs_do_not_reopen_a_test(runner: Runner) -> None:
+    write_pairs(runner.folder / "all", [*SOME[:25], *[LOST] * 100])
+    line = "a - b: 100 Elo accepted, not 0 Elo, at the pair of seed 25: 25 pairs, "
+    ratios = "log likelihood ratio 4.86, exact 3.50, bounds -2.94 and 2.94\n"
+    assert runner.tally("all", "--sprt", "0", "100") == (0, line + ratios, "")
+
+
+def test_pair_whose_game_has_no_result_after_its_try_is_left_out(runner: Runner) -> None:
+    pairs = [*SOME[:3], Pair("B+R", None), *SOME[3:24], Pair(None, None), SOME[24]]
+    write_pairs(runner.folder / "all", pairs)
+    (runner.folder / "all/logs").mkdir()
+    failed = "twogtp: a line\ntournament: not over in 600 seconds\n"
+    runner.write("all/logs/4_b_a", failed)
+    # a log of a game that is played, or that was stopped, doesn't say why there is no result
+    runner.write("all/logs/26_a_b", "twogtp: a line\n")
+    done = runner.tally("all", "--sprt", "0", "100")
+    line = "a - b: go on: 24 pairs (9 unlike most; at least 10 are needed), "
+    left_out = "; left out, without a result after their try: 4_b_a\n"
+    assert done.status == 4
+    assert done.output.startswith(line) and done.output.endswith(left_out)
+    runner.write("all/logs/26_a_b", failed)
+    found = json.loads(runner.tally("all", "--sprt", "0", "100", "--json").output)["sprt"]
+    assert (found["seed"], found["pairs"]) == (27, [3, 0, 7, 0, 15])
+    assert found["left_out"] == ["4_b_a", "26_a_b"]
 
 
 @pytest.mark.parametrize(
     "pairs, differences, line, status",
     [
-        pytest.param(SOME, (0, 100), "100 Elo accepted, not 0 Elo: 50 pairs", 0, id="won"),
-        pytest.param(OTHERWISE, (0, 100), "0 Elo accepted, not 100 Elo: 50 pairs", 3, id="lost"),
+        pytest.param(
+            SOME,
+            (0, 100),
+            "100 Elo accepted, not 0 Elo, at the pair of seed 25: 25 pairs",
+            0,
+            id="won",
+        ),
+        pytest.param(
+            OTHERWISE,
+            (0, 100),
+            "0 Elo accepted, not 100 Elo, at the pair of seed 25: 25 pairs",
+            3,
+            id="lost",
+        ),
         pytest.param([EVEN, WON, LOST, EVEN] * 13, (0, 10), "go on: 52 pairs", 4, id="open"),
         pytest.param(
             SOME[:15], (0, 100), "go on: 15 pairs (at least 16 are needed)", 4, id="too few"
@@ -126,14 +195,18 @@ def test_decision(counts: Counts, differences: Differences, status: int, runner:
             id="too few that differ",
         ),
         pytest.param(
-            [*SOME[:48], Pair("B+R", None), *SOME],
+            [*SOME[:20], Pair("B+R", None), *SOME],
             (0, 100),
-            "100 Elo accepted, not 0 Elo: 48 pairs",
-            0,
+            "go on: 20 pairs (8 unlike most; at least 10 are needed)",
+            4,
             id="up to the first pair that isn't whole",
         ),
         pytest.param(
-            SOME, (-800, 800), "800 Elo accepted, not -800 Elo: 50 pairs", 0, id="the greatest"
+            SOME,
+            (-800, 800),
+            "800 Elo accepted, not -800 Elo, at the pair of seed 25: 25 pairs",
+            0,
+            id="the greatest",
         ),
         pytest.param(
             [Pair(None, None)] * 2,
@@ -167,7 +240,9 @@ def test_line_and_json(runner: Runner) -> None:
         "elo1": 10,
         "accepted": "go on",
         "pairs": [5, 0, 15, 0, 30],
-        "bound": math.log(19),
+        "bounds": pytest.approx([-math.log(19), math.log(19)]),
+        "seed": None,
+        "left_out": [],
     }
 
 
@@ -181,14 +256,15 @@ REFUSED = Pair("unfit white", "B+R")
         pytest.param([], [5, 0, 15, 0, 30], id="b loses"),
         pytest.param(["--abandoned", "loses"], [5, 0, 15, 0, 30], id="b loses as asked"),
         pytest.param(["--abandoned", "out"], [5, 0, 15, 0, 0], id="out"),
-        # 1/2 of a pair that a refused and b won, and of the crashes a half for each
+        # 1/2 of a pair that b refused and b won, and of the crashes a half for each
         pytest.param(["--abandoned", "half"], [5, 4, 45, 0, 0], id="half"),
     ],
 )
 def test_pairs_with_sides_that_failed(words: List[str], counts: List[int], runner: Runner) -> None:
     pairs = [CRASHED if pair is WON else pair for pair in SOME]
     write_pairs(runner.folder / "all", [*pairs, *[REFUSED] * 4])
-    found = json.loads(runner.tally("all", "--sprt", "0", "100", "--json", *words).output)
+    # a difference too small for a decision
+    found = json.loads(runner.tally("all", "--sprt", "0", "0.1", "--json", *words).output)
     assert found["sprt"]["pairs"] == counts
 
 

@@ -14,6 +14,7 @@ from ..model import Engine, Plan
 from ..output import Mistake
 from ..play.programs import find, find_twogtp, try_options
 from ..store.layout import make_folders
+from .sprt import asked_of
 
 if TYPE_CHECKING:
     from ..cluster import Share
@@ -115,6 +116,12 @@ def do_play(arguments: Arguments) -> int:
     jobs = arguments.last("--jobs", number) or processors()
     if folder.surplus:
         output.report(folder.surplus)
+    asked = asked_of(arguments, plan)
+    if asked and task:
+        raise Mistake(
+            "--sprt needs all games, and --task plays some of them: give only one of the two; "
+            "without --task several machines may play in one folder, too"
+        )
     if arguments.has("--dry-run"):
         return dry_run(prepared, task, arguments.has("--again"))
     play = Play(Run(plan, folder.place, prepared.twogtp), plan, jobs, task, left)
@@ -122,7 +129,7 @@ def do_play(arguments: Arguments) -> int:
     if status is not None:
         return status
     write(prepared)
-    return play.all(arguments.has("--again"))
+    return play.all(arguments.has("--again"), asked)
 
 
 def dry_run(prepared: Prepared, task: Share | None, again: bool) -> int:

@@ -19,12 +19,19 @@ class Option(NamedTuple):
 
 
 Options = Mapping[str, "Option | None"]  # by their names; None for an option without values
+OF_TEST: Options = {
+    "--sprt": Option("two differences in Elo", "--sprt 0 10", 2),
+    "--between": Option("two engines' NAMEs", "--between new old", 2),
+    "--alpha": Option("a number", "--alpha 0.05"),
+    "--beta": Option("a number", "--beta 0.05"),
+}
 QUOTED = "--engine 'one=gtp_engine --policy random --seed %s'"
 OF_PLAY: Options = {  # which no plan keeps
     "--jobs": Option("a number", "--jobs 4"),
     "--again": None,
     "--task": Option("K/T", "--task 3/100"),
     "--time-left": Option("a time", "--time-left 30:00"),
+    **OF_TEST,
     "--dry-run": None,
 }
 OF_PLAN: Options = {
@@ -50,8 +57,7 @@ OF_LOSSES: Options = {
 OF_TALLY: Options = {
     **OF_LOSSES,
     "--no-winner": Option("half or out", "--no-winner out"),
-    "--sprt": Option("two differences in Elo", "--sprt 0 10", 2),
-    "--between": Option("two engines' NAMEs", "--between new old", 2),
+    **OF_TEST,
     "--json": None,
 }
 OF_EXPORT: Options = {

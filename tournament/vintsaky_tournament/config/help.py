@@ -76,17 +76,32 @@ Engines start in the directory of the file, and paths are seen from there. An
 option that is given besides counts in place of the key. Before version 3.11
 Python needs the package tomli to read such a file.
 """
+BETWEEN = """\
+  --between NAME NAME
+                     with --sprt: test these two engines, the first one against
+                     the second; needed if the plan has more than two engines
+  --alpha NUMBER     with --sprt: accept ELO1 so often where ELO0 is true, from
+                     0.001 to 0.25 [0.05]
+  --beta NUMBER      with --sprt: accept ELO0 so often where ELO1 is true [0.05]
+"""
 PLAY = """\
   --jobs N           play N games at once; a plan doesn't keep N [the number of
                      processors]
 """
-MORE_OF_PLAY = """\
+MORE_OF_PLAY = (
+    """\
   --again            play games with an unfit or abandoned side again, and try
                      their engines again
   --task K/T         play only the games K, K+T, K+2T .. of the plan
   --time-left TIME   begin no game that doesn't fit into this time, written as
                      squeue prints it: 1-00:30:00 or 30:00; or in seconds, as 90
+  --sprt ELO0 ELO1   end the run once a sequential test is over: whether the
+                     plan's first engine is stronger than its second by ELO0 or
+                     by ELO1 Elo. Pairs count in the order of seeds; one is left
+                     out whose game has no result after its try
 """
+    + BETWEEN
+)
 DRY_RUN = """\
   --dry-run          write and play nothing; print the games without a result,
                      and a command of twogtp that plays the first one by hand,
@@ -104,9 +119,9 @@ the one in ../bin or ../../bin, seen from the directory of these scripts, or
 else the one in PATH.
 """
 STATUS = """\
-status: 0  each game has a result, and no side was unfit or abandoned. With
-           --task, and for tournament game, a game that another process is
-           playing needs no result
+status: 0  each game has a result, and no side was unfit or abandoned; or the
+           test of --sprt is over. With --task, and for tournament game, a game
+           that another process is playing needs no result
         1  some game has no result, a side was unfit or abandoned, or nothing
            can be written
         2  usage error; nothing was played
@@ -136,7 +151,9 @@ usage: tournament play FOLDER --engine NAME=CMD --engine NAME=CMD ..
            [--seeds N] [--limit SECONDS] [--move-limit SECONDS]
            [--start-limit SECONDS] [--clock CLOCK] [--margin SECONDS]
            [--scorer CMD] [--openings FILE] [--direct] [--jobs N] [--again]
-           [--task K/T] [--time-left TIME] [--dry-run] [-- OPTION ..]
+           [--task K/T] [--time-left TIME] [--dry-run]
+           [--sprt ELO0 ELO1 [--between NAME NAME] [--alpha N] [--beta N]]
+           [-- OPTION ..]
        tournament play FOLDER ..            if FOLDER has a plan
        tournament play FILE.toml ..         tournament plan --help has its keys
 
@@ -284,8 +301,8 @@ status: 0  all of these games are scored
 """,
     "tally": """\
 usage: tally FOLDER [--abandoned half|out|loses] [--late half|out|loses]
-           [--no-winner half|out] [--sprt ELO0 ELO1 [--between NAME NAME]]
-           [--json]
+           [--no-winner half|out] [--json]
+           [--sprt ELO0 ELO1 [--between NAME NAME] [--alpha N] [--beta N]]
        tally --version
 
 Counts the results of a directory that tournament made. With three engines or
@@ -302,10 +319,12 @@ intervals that follow from whole pairs.
                      game is drawn
   --sprt ELO0 ELO1   test whether the plan's first engine is stronger than its
                      second by ELO0 or by ELO1 Elo, and say which of the two is
-                     accepted. Both are from -800 to 800, the lower one first
-  --between NAME NAME
-                     with --sprt: test these two engines, the first one against
-                     the second; needed if the plan has more than two engines
+                     accepted, at which pair, and which games have no result
+                     after their try, whose pairs are left out. Both are from
+                     -800 to 800, the lower one first
+"""
+    + BETWEEN
+    + """\
   --json             print JSON: scores are from 0 to 1, an infinite Elo is
                      null, and pairs that repeat each other count as one in
                      pairs_in_interval

@@ -41,6 +41,7 @@ class Run:
         self.tree = process_tree.ProcessTree()
         self.stopped: int | None = None  # the signal that stopped it
         self.no_space = False  # whether nothing can be written
+        self.has_all = False  # whether the games in play were asked to end, since all is known
         # without those that nohup, for example, ignores
         self.ending = [number for number in ENDING if signal.getsignal(number) != signal.SIG_IGN]
         process_tree.leave_children(self.ending)
@@ -151,13 +152,23 @@ class Run:
         self.stopped = self.stopped or number
         process_tree.send(signal.SIGTERM, self.playing)
 
+    def end_games(self) -> None:
+        """Asks all games to end, once, since their results aren't needed."""
+        if not self.has_all and self.playing:
+            self.has_all = True
+            process_tree.send(signal.SIGTERM, self.playing)
+
     def is_ending(self, seconds: float = 0) -> bool:
         """Returns whether all games were asked to end, or are in so many seconds, as where all
         processes get a signal."""
         until = time.monotonic() + seconds
-        while not self.stopped and not self.no_space and time.monotonic() < until:
+        while not self.is_asked_to_end() and time.monotonic() < until:
             self.wait_for_signal(until - time.monotonic())
-        return bool(self.stopped or self.no_space)
+        return self.is_asked_to_end()
+
+    def is_asked_to_end(self) -> bool:
+        """Returns whether all games were asked to end."""
+        return self.stopped is not None or self.no_space or self.has_all
 
     def stop_status(self) -> int:
         """Returns the status of a run that was stopped."""

@@ -22,6 +22,8 @@ from .run import Run
 
 if TYPE_CHECKING:
     from ..cluster import Share
+    from ..stats.sprt import TestRequest
+    from .tested import TestedGames
 
 AGAIN = 3  # seconds for which games are tried that another process holds, which may be about to end
 PAUSE = 0.2  # seconds between two such tries
@@ -57,6 +59,7 @@ class Play:
         # whether these were too many, or an engine can't be started at all
         self.is_unable = False
         self.is_written = True  # whether all lines could be written
+        self.tested: TestedGames | None = None  # where the run ends once a test is over
         self.progress = Progress(0, 0)  # which begins once it is known how many are to be played
 
     # ---- states
@@ -91,6 +94,23 @@ class Play:
         self.states[game] = results.state_of(self.plan, self.run.folder, game, result)
         self.count += 1
         self.old.pop(game, None)
+        if self.tested:
+            self.tested.add(game, result)
+
+    def add_failed(self, game: int) -> None:
+        """Counts a game that has no result after its try."""
+        self.progress.failed += 1
+        if self.tested:
+            self.tested.add_failed(game)
+
+    def add_of_others(self) -> None:
+        """Counts what another process has played meanwhile of the pair for which a test waits."""
+        for game in self.tested.test.awaited() if self.tested else ():
+            if game in self.later:
+                place = Places(self.run.folder, self.games.name(game))
+                if result := self.run.whole(place):
+                    self.later.remove(game)
+                    self.add_result(game, result)
 
     def count_again(self) -> None:
         """Counts the results again: all of them where a game was played, since others may be gone
@@ -108,7 +128,11 @@ class Play:
     def is_over(self) -> bool:
         """Returns whether no other game is to be begun."""
         is_stopped = self.run.stopped is not None or self.run.no_space
-        return is_stopped or self.is_unable or self.has_no_time()
+        return is_stopped or self.is_unable or self.is_decided() or self.has_no_time()
+
+    def is_decided(self) -> bool:
+        """Returns whether the test that ends the run is over."""
+        return self.tested is not None and self.tested.is_over()
 
     def has_no_time(self) -> bool:
         """Returns whether less time is left than a game may take."""
@@ -146,7 +170,7 @@ class Play:
         except Taken:
             self.later.append(game)
         except InTheWay as problem:
-            self.progress.failed += 1
+            self.add_failed(game)
             output.report(f"{name}: {no_result(game in self.old)}: {problem.text}")
         except OSError as error:
             if error.errno in output.TOO_MANY_GAMES and self.run.playing:
@@ -159,7 +183,10 @@ class Play:
     def wait(self) -> None:
         """Waits until a game has ended, and writes its line; or until it is time to say how far the
         run is."""
-        for name, outcome, result in self.run.wait(self.progress.pause()):
+        pause = self.progress.pause()
+        if self.tested and self.later:
+            pause = min(pause, AGAIN)  # for games of other processes, which wake up nobody
+        for name, outcome, result in self.run.wait(pause):
             game, engines = self.games.number(name), GameId.parse(name).engines
             assert game is not None
             if result:
@@ -173,7 +200,9 @@ class Play:
                 self.later.append(game)
             elif side is not None:
                 self.add_not_started(engines[side])
-            self.progress.failed += outcome not in (Outcome.TAKEN, Outcome.STOPPED)
+            if outcome not in (Outcome.TAKEN, Outcome.STOPPED):
+                self.add_failed(game)
+        self.add_of_others()
         self.progress.lost = self.count_of(State.LOST)
         self.progress.show(self.count)
 
@@ -197,13 +226,15 @@ class Play:
                 if len(self.run.playing) >= self.jobs or not self.begin(waiting):
                     break
                 waiting = next(games, None)
+            if self.is_decided():
+                self.run.end_games()
             if self.run.playing:
                 self.wait()
 
     def play(self) -> None:
         """Plays all that are missing, once each engine was tried here. Those that another process
         plays are tried again at the end, for some seconds."""
-        if self.count < self.total and not self.has_no_time():
+        if self.count < self.total and not self.has_no_time() and not self.is_decided():
             failed = self.try_engines(self.plan.engines)
             if failed:
                 self.advise(failed)
@@ -220,11 +251,15 @@ class Play:
         self.run.tree.end()
         self.count_again()
 
-    def all(self, again: bool) -> int:
+    def all(self, again: bool, asked: TestRequest | None = None) -> int:
         """Plays all that are missing, and again those in which a side was unfit or abandoned where
-        that is asked. Returns the status."""
+        that is asked; or until a test is over. Returns the status."""
         if again:
             self.forget_lost()
+        if asked:
+            from .tested import TestedGames  # which isn't needed elsewhere
+
+            self.tested = TestedGames(self.plan, self.run.folder, asked, self.old)
         if not self.share:
             clear_running(self.run.folder)
         self.play()
@@ -306,13 +341,18 @@ class Play:
                 f"another game of {self.plan.limit} seconds doesn't fit into the time left; the "
                 "same command goes on"
             )
-        if self.later and not self.run.no_space:
+        if self.later and not self.run.no_space and not self.is_decided():
             output.report(f"games that another process plays: {len(self.later)}")
         self.print(self.counted(0 if self.is_unable else self.count_of(State.LOST)))
+        if self.tested:
+            from ..report.text import line_of_test  # which isn't needed elsewhere
+
+            self.print(line_of_test(self.tested.test))
         if not self.is_written:
             output.report(f"{counted}; the same command goes on")
         if self.is_unable:
             return NO_START
         others = len(self.later) if self.share else 0  # of a task that was submitted twice
         has_all = self.count + others >= self.total and not self.count_of(State.LOST)
+        has_all = has_all or self.is_decided()
         return 0 if has_all and self.is_written and not self.run.stopped else 1

@@ -6,7 +6,6 @@ import math
 from typing import Any
 
 from ..model import Side
-from ..stats import scores
 from ..stats.pairs import PairCounts
 from ..stats.scored import Scored
 from ..stats.sprt import Test
@@ -137,5 +136,7 @@ def of_test(test: Test) -> dict[str, Any]:
         "pairs": test.counts,
         "ratio": test.ratio,
         "exact": test.exact,
-        "bound": scores.BOUND,
+        "bounds": test.bounds,
+        "seed": None if test.decision is None else test.seed,
+        "left_out": list(map(test.pairs.games.name, test.left_out())),
     }

@@ -201,11 +201,15 @@ def line_of_test(test: Test) -> str:
     """Returns what a sequential test says."""
     low, high = (f"{difference:g} Elo" for difference in test.differences)
     accepted = {0: f"{low} accepted, not {high}", 1: f"{high} accepted, not {low}"}
-    said = "go on" if test.decision is None else accepted[test.decision]
-    bounds = f"{-scores.BOUND:.2f} and {scores.BOUND:.2f}"
+    said = "go on"
+    if test.decision is not None:
+        said = f"{accepted[test.decision]}, at the pair of seed {test.seed}"
+    bounds = " and ".join(f"{bound:.2f}" for bound in test.bounds)
     ratios = f"log likelihood ratio {test.ratio:.2f}, exact {test.exact:.2f}, bounds {bounds}"
     count = f"{sum(test.counts)} pairs{lacking(test.counts)}"
-    return f"{' - '.join(test.engines)}: {said}: {count}, {ratios}"
+    games = ", ".join(map(test.pairs.games.name, test.left_out()))
+    left_out = f"; left out, without a result after their try: {games}" if games else ""
+    return f"{' - '.join(test.engines)}: {said}: {count}, {ratios}{left_out}"
 
 
 def lacking(counts: Sequence[int]) -> str:

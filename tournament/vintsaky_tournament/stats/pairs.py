@@ -145,16 +145,6 @@ class Pairs:
                         seeds.update({moves: seed} if moves else {})
         return found
 
-    def in_order(self, pairing: Pairing) -> list[int]:
-        """Returns the counts of pairs of two engines that a sequential test counts: those that are
-        new, up to the first that isn't whole."""
-        first, second = self.scores_of(pairing.as_black), self.scores_of(pairing.as_white)
-        ends = [end for end in (first.find(Score.NONE), second.find(Score.NONE)) if end >= 0]
-        until = min(ends, default=len(first))
-        first, second = first[:until], second[:until]
-        repeated = [seed for seed in self.repeats(pairing) if seed < until]
-        return without(counts_of(zip(first, second)), first, second, repeated)
-
     def same(self) -> list[list[int]]:
         """Returns the numbers of games that are the same, move by move, in groups and in the plan's
         order."""
@@ -246,13 +236,3 @@ def counts_of(ends: Iterable[tuple[int, int]]) -> list[int]:
         if end in OUTCOMES:
             counts[OUTCOMES[end]] += count
     return counts
-
-
-def without(
-    counts: list[int], first: bytearray, second: bytearray, seeds: Sequence[int]
-) -> list[int]:
-    """Returns the counts without the pairs of these seeds."""
-    if not seeds:
-        return counts
-    removed = counts_of((first[seed], second[seed]) for seed in seeds)
-    return [all_of - some for all_of, some in zip(counts, removed)]

@@ -11,7 +11,6 @@ import math
 from typing import Mapping, NamedTuple, Sequence, Tuple
 
 Z = 1.959963984540054  # of a 95 % interval
-BOUND = math.log(19)  # of the log likelihood ratio, where both errors are to be 5 %: 0.95 / 0.05
 FEWEST = 16  # pairs from which on a test says anything
 FEWEST_OTHERS = 10  # pairs unlike the most frequent ones, before which their variance isn't known
 ADDED = 0.001  # to each count in a test, so that there is a variance
@@ -33,6 +32,17 @@ class Observed(NamedTuple):
 
 
 Together = Tuple[Observed, ...]  # games that are one observation
+
+
+class Bounds(NamedTuple):
+    """The log likelihood ratios up to which a test accepts the lower difference, and from which on
+    the higher one."""
+
+    low: float
+    high: float
+
+
+FIVE_PERCENT = Bounds(-math.log(19), math.log(19))  # where both errors are to be 5 %: 0.95 / 0.05
 
 
 class Estimate(NamedTuple):
@@ -120,7 +130,9 @@ def others(counts: Sequence[int]) -> int:
     return sum(counts) - max(counts)
 
 
-def decision(counts: Sequence[int], elo0: float, elo1: float) -> int | None:
+def decision(
+    counts: Sequence[int], elo0: float, elo1: float, bounds: Bounds = FIVE_PERCENT
+) -> int | None:
     """Returns which of two differences a sequential test accepts, 0 or 1; None where it needs more
     pairs.
 
@@ -129,12 +141,12 @@ def decision(counts: Sequence[int], elo0: float, elo1: float) -> int | None:
     """
     if sum(counts) < FEWEST or others(counts) < FEWEST_OTHERS:
         return None
-    first = accepted(ratio(counts, elo0, elo1))
-    if first is None or accepted(exact_ratio(counts, elo0, elo1)) != first:
+    first = accepted(ratio(counts, elo0, elo1), bounds)
+    if first is None or accepted(exact_ratio(counts, elo0, elo1), bounds) != first:
         return None
     return first
 
 
-def accepted(found: float) -> int | None:
+def accepted(found: float, bounds: Bounds = FIVE_PERCENT) -> int | None:
     """Returns which difference a ratio accepts; None where it is between the bounds."""
-    return 1 if found >= BOUND else 0 if found <= -BOUND else None
+    return 1 if found >= bounds.high else 0 if found <= bounds.low else None

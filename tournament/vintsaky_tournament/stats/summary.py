@@ -86,6 +86,15 @@ class Counts:
             found[ending.description] += count
         return found
 
+    def has_failed(self, game: int) -> bool:
+        """Returns whether a game has no result after its try, and a log that says why."""
+        return self.states[game] == State.LOGGED and self.reason(game) != ""
+
+    def reason(self, game: int) -> str:
+        """Returns why a game that has a log has no result; an empty text where nobody knows."""
+        line = results.last_line(f"{self.folder}/logs/{self.games.name(game)}")
+        return line[len(PREFIX) :] if line.startswith(PREFIX) else ""
+
     def damaged(self) -> int:
         """Returns the number of damaged files."""
         return self.states.count(State.DAMAGED)
@@ -214,7 +223,6 @@ def without_result(counts: Counts) -> Iterator[WithoutResult]:
             damage = f"its file can't be read: {error}" if error else "its file is damaged"
             yield WithoutResult(name, damage)
         elif state == State.LOGGED:
-            name = counts.games.name(game)
-            line = results.last_line(f"{counts.folder}/logs/{name}")
-            if line.startswith(PREFIX):
-                yield WithoutResult(name, line[len(PREFIX) :])
+            reason = counts.reason(game)
+            if reason:
+                yield WithoutResult(counts.games.name(game), reason)
