@@ -39,7 +39,7 @@ def test_full_disk(disk: Path, runner: Runner, small_results: Dict[str, str]) ->
         while True:
             file.write(bytes(4096))
     # pages of a game that is played, and those that two leave
-    os.truncate(filler, filler.stat().st_size - 16 * 4096)
+    os.truncate(filler, filler.stat().st_size - 18 * 4096)
     status, output, errors = runner.tournament("play", "disk/all", "--jobs", "1")
     played = runner.games("disk/all")
     assert 0 < len(played) < 8

@@ -8,9 +8,10 @@ import time
 from typing import NamedTuple
 
 from .. import output, processes
-from ..model import Outcome, Plan, Result
+from ..model import GameId, Outcome, Plan, Result
 from ..store.layout import InTheWay, Places
 from . import process_tree
+from .engine_files import EngineFiles
 from .game import ENDING, SAME, play_here, report
 from .match import Match
 
@@ -37,6 +38,7 @@ class Run:
 
     def __init__(self, plan: Plan, folder: str, twogtp: str) -> None:
         self.folder, self.at, self.match = folder, os.path.abspath(folder), Match(plan, twogtp)
+        self.files = EngineFiles(self.match, self.at)
         self.playing: dict[int, Playing] = {}  # by the process of each game
         self.tree = process_tree.ProcessTree()
         self.stopped: int | None = None  # the signal that stopped it
@@ -108,6 +110,7 @@ class Run:
                 places.remove()
                 return result
             self.match.prepare()
+            self.files.look(name, GameId.parse(name).engines)
             own = os.getpid()
             process = os.fork()
             if not process:
@@ -209,6 +212,7 @@ class Run:
         if is_broken:
             self.tree.end(self.playing)
         result = self.whole(game.places, game.old)
+        self.files.end(game.name, has_result=bool(result))
         if is_broken or outcome is Outcome.STOPPED:
             if status < 0 and not result and not self.is_ending():
                 report(game.name, game.places, f"its process was ended by signal {-status}")

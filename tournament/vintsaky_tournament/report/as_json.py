@@ -11,6 +11,7 @@ from ..stats.scored import Scored
 from ..stats.sprt import Test
 from ..stats.standings import Standings
 from ..stats.summary import EngineRow, PairingRow, Row, Summary, without_result
+from ..store.engine_files import replaced_in
 
 ACCEPTED = {None: "go on", 0: "elo0", 1: "elo1"}
 
@@ -37,6 +38,9 @@ def json_of(summary: Summary, test: Test | None = None) -> str:
         "damaged": counts.damaged(),
         "no_result": dict(without_result(counts)),
     }
+    replaced = replaced_in(counts.folder)
+    if replaced:
+        found["replaced"] = [each._asdict() for each in replaced]
     if counts.scored.scorer:
         found["scorer"] = of_scored(counts.scored)
     if test:

@@ -6,6 +6,7 @@ from functools import lru_cache
 from typing import Iterator, Sequence
 
 from ..model import Side, Way
+from ..store.engine_files import replaced_in
 from ..stats import scores
 from ..stats.endings import Rule
 from ..stats.pairs import PairCounts
@@ -40,6 +41,8 @@ class Table:
         yield from self.of_all()
         yield from self.of_same()
         blames = [f"  {engine}: {cause}: {count}" for engine, cause, count in self.summary.blames()]
+        replaced = replaced_in(self.counts.folder)
+        blames += [f"  {found.engine}: {found.text}" for found in replaced]
         yield from ["to look into:", *blames] if blames else []
         if have < all_games:
             yield f"no result: {all_games - have}"
