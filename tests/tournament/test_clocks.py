@@ -399,7 +399,8 @@ for line in sys.stdin:
 @pytest.mark.parametrize("limit", ["clock", "move_limit"])
 def test_work_of_processors_is_noted(limit: str, runner: Runner) -> None:
     value = {"clock": "absolute 1000", "move_limit": "1000"}[limit]
-    between = Between(runner, runner.script("works", WORKS), **{limit: value})
+    shell = ["sh", "-c", f"{runner.script('works', WORKS)}; true"]  # below which the engine runs
+    between = Between(runner, *shell, **{limit: value})
     process = between.start()
     for _ in range(2):
         assert process.stdin
