@@ -121,9 +121,9 @@ def error_rates(
     return rates
 
 
-def highest_rate(count: int) -> float:
-    """Returns what so many tests may come to where the rate is 6 %: two standard errors more."""
-    return 0.06 + 2 * math.sqrt(0.06 * 0.94 / count)
+def highest_rate(count: int, rate: float = 0.06) -> float:
+    """Returns what so many tests may come to where this is the rate: two standard errors more."""
+    return rate + 2 * math.sqrt(rate * (1 - rate) / count)
 
 
 # ---- tournaments of many engines

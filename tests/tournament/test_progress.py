@@ -11,6 +11,8 @@ from .inside import module
 from .misbehaving import HANGS
 from .runner import Runner, engines
 from .terminal import Terminal
+from .test_tally import THREE_ENGINES
+from .written import ENDED, OUTCOMES, write_pairs, write_results
 
 progress = module("play.progress")
 PLAY = ["tournament", "play", "all", "--jobs", "1"]
@@ -62,7 +64,7 @@ class Run(NamedTuple):
 )
 def test_line(run: Run, line: str) -> None:
     clock = Clock()
-    shown = progress.Progress(run.before, run.total, False, clock)
+    shown = progress.Progress(run.before, run.total, str, False, clock)
     clock.seconds += run.seconds
     shown.failed, shown.lost = run.failed, run.lost
     assert shown.line(run.results) == line
@@ -82,7 +84,7 @@ def test_line(run: Run, line: str) -> None:
 )
 def test_time_that_is_left(results: int, total: int, left: str) -> None:
     clock = Clock()
-    shown = progress.Progress(0, total, False, clock)
+    shown = progress.Progress(0, total, str, False, clock)
     clock.seconds += 600
     assert shown.line(results).endswith(f" games a minute, {left} left")
 
@@ -98,7 +100,7 @@ def test_pauses_between_lines(
     is_terminal: bool, pauses: List[float], capfd: pytest.CaptureFixture[str]
 ) -> None:
     clock = Clock()
-    shown = progress.Progress(0, 10, is_terminal, clock)
+    shown = progress.Progress(0, 10, str, is_terminal, clock)
     line = f"tournament: {shown.line(0)}"
     found = []
     for number in range(3):
@@ -133,3 +135,47 @@ def test_line_counts_abandoned_sides(runner: Runner) -> None:
     counted = "2 of 4 games have a result, 2 of them unfit or abandoned, 0 failed; "
     terminal.wait_for(f"tournament: {counted}")
     assert re.search(r"; \d+\.\d games a minute, \d+ min left", terminal.text)
+
+
+# ---- who leads
+
+# The pairs are 1 0 2 2 2, as in test_tally.py, where their interval is
+# worked out by hand. The ratios are by R, as in test_sprt.py.
+PAIRS = [OUTCOMES[points] for points in (0, 2, 2, 3, 3, 4, 4)]
+A_LEADS = "a leads with 64.3 %, +102 Elo (-98 to +358)"
+RATIOS = "log likelihood ratio 0.68, exact 0.57, bounds -2.94 and 2.94"
+
+
+def first_line(runner: Runner, names: str, seeds: int, *words: str) -> str:
+    """Returns what the first line of progress says where these engines hang, and some games have
+    results."""
+    hangs = runner.script("hangs", HANGS)
+    some = engines(**{name: f"{hangs} 1" for name in names})
+    runner.tournament("plan", "all", *some, "--seeds", seeds, "--", "--size", "9", "--komi", "7")
+    runner.pass_trials()
+    terminal = Terminal(runner, *PLAY, *words)
+    terminal.wait_for("\n")
+    line = terminal.text.splitlines()[0]
+    return line.partition("unknown time left; ")[2].partition("; kill")[0]
+
+
+@pytest.mark.parametrize(
+    "words, said",
+    [
+        pytest.param([], A_LEADS, id="alone"),
+        pytest.param(["--sprt", "0", "100"], f"{A_LEADS}; {RATIOS}", id="with a test"),
+    ],
+)
+def test_line_says_who_leads(words: List[str], said: str, runner: Runner) -> None:
+    write_pairs(runner.folder / "all", PAIRS)
+    (runner.folder / "all/plan").unlink()
+    assert first_line(runner, "ab", 8, *words) == said
+
+
+def test_line_says_who_leads_of_three_engines(runner: Runner) -> None:
+    # as in test_tally.py, where R says so
+    results = {game: f"{verdict} {ENDED}" for game, verdict in THREE_ENGINES.items()}
+    (runner.folder / "all/games").mkdir(parents=True)
+    write_results(runner.folder / "all", results)
+    said = "a leads with 81.2 %, +136 Elo (-35 to +307)"
+    assert first_line(runner, "abc", 3) == said

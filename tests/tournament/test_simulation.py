@@ -2,12 +2,16 @@
 from __future__ import annotations
 
 import json
+from functools import partial
 
 import pytest
 
 from . import simulation
+from .inside import module
 from .runner import Runner
 from .simulation import Differences, Kind, error_rates, highest_rate
+
+sprt = module("stats.sprt")
 
 
 @pytest.mark.parametrize(
@@ -21,6 +25,19 @@ from .simulation import Differences, Kind, error_rates, highest_rate
 def test_a_test_errs_in_at_most_6_percent(differences: Differences, kind: Kind, count: int) -> None:
     rates = error_rates(kind, differences, count)
     assert max(rate.errors for rate in rates) <= highest_rate(count)
+
+
+@pytest.mark.parametrize("alpha, beta", [(0.01, 0.01), (0.1, 0.02)])
+@pytest.mark.parametrize("kind", [simulation.independent, simulation.drawish, simulation.by_seed])
+def test_a_test_errs_about_as_often_as_asked(
+    kind: Kind, alpha: float, beta: float, request: pytest.FixtureRequest
+) -> None:
+    """Simulates 200 tests of each difference, or as many as --count asks for."""
+    count = request.config.getoption("--count") or 200
+    bounds = sprt.TestRequest((0, 100), ("a", "b"), alpha, beta).bounds()
+    rates = error_rates(kind, (0, 100), count, partial(simulation.scores.decision, bounds=bounds))
+    for rate, error in zip(rates, (alpha, beta)):
+        assert rate.errors <= highest_rate(count, 1.2 * error)
 
 
 @pytest.mark.parametrize(

@@ -164,7 +164,7 @@ plan, give engines, --gauntlet, --openings, --move-limit, --clock, --margin,
 engines after the others. If the plan has more engines or seeds than the
 command, the whole plan is played. New engines are added to a plan only if each
 of them can be started on this machine. Each minute, and in a terminal each ten
-seconds, a line on standard error shows the progress.
+seconds, a line on standard error shows the progress, and who leads.
 """,
             PLAN + PLAY + MORE_OF_PLAY + DRY_RUN + OPTION,
             FILES,

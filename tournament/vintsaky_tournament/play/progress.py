@@ -13,16 +13,19 @@ AT_ONCE, OFTEN, SELDOM = 0, 10, 60
 
 
 class Progress:
-    """The progress of a run that began with so many results. `clock` returns the seconds."""
+    """The progress of a run that began with so many results. `standing` returns who leads, and
+    `clock` the seconds."""
 
     def __init__(
         self,
         count: int,
         total: int,
+        standing: Callable[[], str] = str,
         is_terminal: bool | None = None,
         clock: Callable[[], float] = time.monotonic,
     ) -> None:
         self.before, self.total, self.clock, self.began = count, total, clock, clock()
+        self.standing = standing
         self.failed = 0  # games that ended without a result
         self.lost = 0  # results in which a side was unfit or abandoned
         self.how_to_stop = f"; kill {os.getpid()} stops this run"  # in the first line
@@ -38,7 +41,7 @@ class Progress:
         """Writes a line where it is time. There are so many results now."""
         if self.clock() >= self.next:
             self.next = self.clock() + self.step
-            output.report(f"{self.line(count)}{self.how_to_stop}")
+            output.report(f"{self.line(count)}{self.standing()}{self.how_to_stop}")
             self.how_to_stop = ""
 
     def line(self, count: int) -> str:

@@ -23,7 +23,7 @@ from .run import Run
 if TYPE_CHECKING:
     from ..cluster import Share
     from ..stats.sprt import TestRequest
-    from .tested import TestedGames
+    from .counted import CountedGames
 
 AGAIN = 3  # seconds for which games are tried that another process holds, which may be about to end
 PAUSE = 0.2  # seconds between two such tries
@@ -59,7 +59,8 @@ class Play:
         # whether these were too many, or an engine can't be started at all
         self.is_unable = False
         self.is_written = True  # whether all lines could be written
-        self.tested: TestedGames | None = None  # where the run ends once a test is over
+        # who leads, and a test that ends the run; None until either is asked for
+        self.counted_games: CountedGames | None = None
         self.progress = Progress(0, 0)  # which begins once it is known how many are to be played
 
     # ---- states
@@ -94,20 +95,21 @@ class Play:
         self.states[game] = results.state_of(self.plan, self.run.folder, game, result)
         self.count += 1
         self.old.pop(game, None)
-        if self.tested:
-            self.tested.add(game, result)
+        if self.counted_games:
+            self.counted_games.add(game, result)
 
     def add_failed(self, game: int) -> None:
         """Counts a game that has no result after its try."""
         self.progress.failed += 1
-        if self.tested:
-            self.tested.add_failed(game)
+        if self.counted_games:
+            self.counted_games.add_failed(game)
 
     def add_of_others(self) -> None:
         """Counts what another process has played meanwhile of the pair for which a test waits."""
-        for game in self.tested.test.awaited() if self.tested else ():
-            if game in self.later:
-                place = Places(self.run.folder, self.games.name(game))
+        for game in self.counted_games.awaited() if self.counted_games else ():
+            place = Places(self.run.folder, self.games.name(game))
+            # a scorer may be asked until there is no lock any more
+            if game in self.later and not os.path.lexists(place.lock):
                 if result := self.run.whole(place):
                     self.later.remove(game)
                     self.add_result(game, result)
@@ -132,7 +134,7 @@ class Play:
 
     def is_decided(self) -> bool:
         """Returns whether the test that ends the run is over."""
-        return self.tested is not None and self.tested.is_over()
+        return self.counted_games is not None and self.counted_games.is_over()
 
     def has_no_time(self) -> bool:
         """Returns whether less time is left than a game may take."""
@@ -184,7 +186,7 @@ class Play:
         """Waits until a game has ended, and writes its line; or until it is time to say how far the
         run is."""
         pause = self.progress.pause()
-        if self.tested and self.later:
+        if self.later and self.counted_games and self.counted_games.awaited():
             pause = min(pause, AGAIN)  # for games of other processes, which wake up nobody
         for name, outcome, result in self.run.wait(pause):
             game, engines = self.games.number(name), GameId.parse(name).engines
@@ -205,6 +207,19 @@ class Play:
         self.add_of_others()
         self.progress.lost = self.count_of(State.LOST)
         self.progress.show(self.count)
+
+    def standing(self) -> str:
+        """Returns who leads by now, for the line of progress."""
+        if self.share:  # whose pairs are in other shares, too
+            return ""
+        if not self.counted_games:
+            from .counted import CountedGames  # which isn't needed elsewhere
+
+            try:
+                self.counted_games = CountedGames(self.plan, self.run.folder, self.old)
+            except OSError:
+                return ""  # the run ends where that matters
+        return self.counted_games.standing()
 
     def add_not_started(self, engine: str) -> None:
         """Counts that an engine wasn't started in a game. Where these are too many in a row, no
@@ -238,7 +253,7 @@ class Play:
             failed = self.try_engines(self.plan.engines)
             if failed:
                 self.advise(failed)
-        self.progress = Progress(self.count, self.total)
+        self.progress = Progress(self.count, self.total, self.standing)
         self.play_these(self.missing())
         until = time.monotonic() + AGAIN
         while self.later and not self.is_over() and time.monotonic() < until:
@@ -257,9 +272,9 @@ class Play:
         if again:
             self.forget_lost()
         if asked:
-            from .tested import TestedGames  # which isn't needed elsewhere
+            from .counted import CountedGames  # which isn't needed elsewhere
 
-            self.tested = TestedGames(self.plan, self.run.folder, asked, self.old)
+            self.counted_games = CountedGames(self.plan, self.run.folder, self.old, asked)
         if not self.share:
             clear_running(self.run.folder)
         self.play()
@@ -344,10 +359,10 @@ class Play:
         if self.later and not self.run.no_space and not self.is_decided():
             output.report(f"games that another process plays: {len(self.later)}")
         self.print(self.counted(0 if self.is_unable else self.count_of(State.LOST)))
-        if self.tested:
+        if self.counted_games and self.counted_games.test:
             from ..report.text import line_of_test  # which isn't needed elsewhere
 
-            self.print(line_of_test(self.tested.test))
+            self.print(line_of_test(self.counted_games.test))
         if not self.is_written:
             output.report(f"{counted}; the same command goes on")
         if self.is_unable:

@@ -13,6 +13,7 @@ from ..stats.pairs import PairCounts
 from ..stats.scored import Scored
 from ..stats.scores import Cluster
 from ..stats.sprt import Test
+from ..stats.standings import Leader
 from ..stats.summary import EngineRow, PairingRow, Row, Summary, without_result
 
 MOST_GROUPS = 10  # of games that are the same
@@ -200,6 +201,19 @@ def whole(elo: float) -> str:
     return f"{elo:+}" if math.isinf(elo) else f"{round(elo):+}"
 
 
+def line_of_leader(first: Leader) -> str:
+    """Returns who leads."""
+    low, high = whole(first.rating.low), whole(first.rating.high)
+    elo = f"{whole(first.rating.elo)} Elo ({low} to {high})"
+    return f"{first.engine} leads with {100 * first.score:.1f} %, {elo}"
+
+
+def ratios_of(test: Test) -> str:
+    """Returns the ratios of a sequential test, and their bounds."""
+    bounds = " and ".join(f"{bound:.2f}" for bound in test.bounds)
+    return f"log likelihood ratio {test.ratio:.2f}, exact {test.exact:.2f}, bounds {bounds}"
+
+
 def line_of_test(test: Test) -> str:
     """Returns what a sequential test says."""
     low, high = (f"{difference:g} Elo" for difference in test.differences)
@@ -207,12 +221,10 @@ def line_of_test(test: Test) -> str:
     said = "go on"
     if test.decision is not None:
         said = f"{accepted[test.decision]}, at the pair of seed {test.seed}"
-    bounds = " and ".join(f"{bound:.2f}" for bound in test.bounds)
-    ratios = f"log likelihood ratio {test.ratio:.2f}, exact {test.exact:.2f}, bounds {bounds}"
     count = f"{sum(test.counts)} pairs{lacking(test.counts)}"
     games = ", ".join(map(test.pairs.games.name, test.left_out()))
     left_out = f"; left out, without a result after their try: {games}" if games else ""
-    return f"{' - '.join(test.engines)}: {said}: {count}, {ratios}{left_out}"
+    return f"{' - '.join(test.engines)}: {said}: {count}, {ratios_of(test)}{left_out}"
 
 
 def lacking(counts: Sequence[int]) -> str:

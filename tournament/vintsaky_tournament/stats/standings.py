@@ -5,10 +5,11 @@ from __future__ import annotations
 from collections import Counter
 from typing import NamedTuple
 
-from .pairs import Pairs
+from .pairs import PairCounts, Pairs
 from .scores import Estimate, Together
 
 FEWEST, MOST = 3, 200  # engines that are rated: the time that it takes rises by their third power
+MOST_AGAIN = 30  # engines of which the leader is looked for again and again
 
 
 class Standing(NamedTuple):
@@ -53,3 +54,34 @@ class Standings:
             )
         if every:
             self.black = advantage(groups_of(engines, every)[0], every)
+
+
+class Leader(NamedTuple):
+    """The best engine: its share of all points in pairs, and its rating: from the mean of all, or
+    of two engines from the other one."""
+
+    engine: str
+    score: float
+    rating: Estimate
+
+
+def leader(pairs: Pairs, engines: list[str]) -> Leader | None:
+    """Returns the best engine; None where no pair is there, or engines are too many for a look
+    now and then."""
+    if len(engines) > MOST_AGAIN:
+        return None
+    found = {name: PairCounts() for name in engines}
+    for pairing in pairs.pairings():
+        counts = pairs.of_two(pairing)
+        found[pairing.first].add(counts)
+        found[pairing.second].add(counts.turned())
+    if len(engines) < FEWEST:
+        rated = [(name, found[name].estimate()) for name in engines]
+        ratings = {name: rating for name, rating in rated if rating}
+    else:
+        groups = Standings(pairs, engines).groups[:1]
+        ratings = {each.engine: each.rating for group in groups for each in group}
+    if not ratings:
+        return None
+    best = max(ratings, key=lambda name: ratings[name].elo)
+    return Leader(best, found[best].score() or 0.0, ratings[best])

@@ -1,0 +1,58 @@
+"""What the games of a run say by now: who leads, and whether a sequential test is over."""
+from __future__ import annotations
+
+from typing import Iterable
+
+from ..model import Plan, Result
+from ..stats.endings import Endings, Rule, Rules
+from ..stats.pairs import Pairs
+from ..stats.sprt import Test, TestRequest
+from ..stats.standings import leader
+from ..store import results
+
+
+class CountedGames:
+    """The games of a run, which count as the tally counts them by default; and a test of two
+    engines, if one is asked for. Results of a folder count, but not those that are played again."""
+
+    def __init__(
+        self, plan: Plan, folder: str, again: Iterable[int], asked: TestRequest | None = None
+    ) -> None:
+        rules, left_out = Rules(), set(again)
+        self.engines = list(plan.engines)
+        self.endings = Endings(plan, folder, rules)
+        self.pairs = Pairs(plan, rules.ways(Rule.OUT))
+        self.failed: set[int] = set()  # games that have no result after their try
+        for game, result in results.of_all(plan, folder, is_quiet=True):
+            if result and game not in left_out:
+                self.pairs.add(game, self.endings.of(game, result).ending, result)
+        self.test = Test(self.pairs, asked, self.failed.__contains__) if asked else None
+
+    def is_over(self) -> bool:
+        """Returns whether there is a test, and it is over."""
+        return self.test is not None and self.test.decision is not None
+
+    def awaited(self) -> list[int]:
+        """Returns the games for which a test waits."""
+        return self.test.awaited() if self.test else []
+
+    def add(self, game: int, result: Result) -> None:
+        """Takes a game that has a result."""
+        self.pairs.add(game, self.endings.of(game, result).ending, result)
+        if self.test:
+            self.test.go_on()
+
+    def add_failed(self, game: int) -> None:
+        """Takes a game that has no result after its try."""
+        self.failed.add(game)
+        if self.test:
+            self.test.go_on()
+
+    def standing(self) -> str:
+        """Returns who leads, and what the test says, for the line of progress."""
+        from ..report.text import line_of_leader, ratios_of  # which aren't needed elsewhere
+
+        first = leader(self.pairs, self.engines)
+        parts = [line_of_leader(first)] if first else []
+        parts += [ratios_of(self.test)] if self.test else []
+        return "".join(f"; {part}" for part in parts)
