@@ -125,9 +125,10 @@ class Conversation:
         if self.timing:
             own = self.timing.commands_before(b"play" if opening_move else name, words)
         self.waiting += [Command(each, each.split()[0], None, is_own=True) for each in own]
+        # before the time of the answer begins
+        used = self.processor_seconds() if self.processor_seconds and name == b"genmove" else 0.0
         self.waiting.append(Command(text, name, opening_move))
-        if self.processor_seconds and name == b"genmove":
-            self.waiting[-1].used = self.processor_seconds()
+        self.waiting[-1].used = used
         return b"".join([each + b"\n" for each in own]) + line
 
     def moves_to_come(self) -> list[bytes]:
@@ -261,21 +262,24 @@ class Conversation:
         set."""
         if not self.waiting:
             return None
-        command, limit = self.waiting[0], self.limit
-        if command.name == b"genmove" and not command.opening_move:
-            limit = self.move_limit
-            if self.timing and (limit is None or self.timing.seconds_left() <= limit):
-                limit = self.timing.seconds_left()
-        return None if limit is None else self.asked_at(command) + limit - time.monotonic()
+        limit, _ = self.limit_of_answer()
+        return None if limit is None else self.asked_at(self.waiting[0]) + limit - time.monotonic()
+
+    def limit_of_answer(self) -> tuple[float | None, bool]:
+        """Returns how many seconds the awaited answer may take, if that is limited, and whether the
+        clock says so."""
+        command = self.waiting[0]
+        if command.name != b"genmove" or command.opening_move:
+            return self.limit, False
+        left = self.timing.seconds_left() if self.timing else None
+        if left is None or self.move_limit is not None and self.move_limit < left:
+            return self.move_limit, False
+        return left, True
 
     def late_event(self) -> str:
-        """Returns what the notes say where no time is left: whether the limit of an answer is over,
-        or the clock."""
-        command = self.waiting[0]
-        is_move = command.name == b"genmove" and not command.opening_move
-        limit = self.move_limit if is_move else None
-        is_out = self.timing and is_move and (limit is None or self.timing.seconds_left() <= limit)
-        return "out-of-time" if is_out else "late"
+        """Returns what the notes say of an answer that comes too late."""
+        _, is_clock = self.limit_of_answer()
+        return "out-of-time" if is_clock else "late"
 
     def seconds_to_wait(self) -> float | None:
         """Returns for how long nothing is to be done here; None for any time.
