@@ -71,7 +71,7 @@ def test_output_that_nobody_reads(command: str, runner: Runner) -> None:
 def test_few_open_files(slow: List[str], runner: Runner) -> None:
     # too many games for these files, of which the run has one for each game that is played
     runner.tournament("plan", "all", *slow, "--seeds", "10", *SMALL)
-    done = runner.shell("ulimit -n 12; tournament play all --jobs 50")
+    done = runner.shell("ulimit -n 14; tournament play all --jobs 50")
     assert (done[::2], len(runner.games())) == ((0, ""), 20)
 
 

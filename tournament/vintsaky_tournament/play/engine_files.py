@@ -7,6 +7,7 @@ import signal
 from typing import Iterator
 
 from .. import output
+from ..model import Result
 from ..store.engine_files import Replaced, Seen, add, seen_in
 from . import programs
 from .game import ENDING
@@ -69,10 +70,11 @@ class EngineFiles:
         if seen is not written:
             self.playing[game].append(seen)
 
-    def end(self, game: str, has_result: bool) -> None:
-        """Writes down the files of a game that has ended with a result: what never played may be
-        replaced without a word."""
-        for seen in self.playing.pop(game, ()) if has_result else ():
+    def end(self, game: str, result: Result | None) -> None:
+        """Writes down the files of a game that has ended with this result. An engine that wasn't
+        started, or was abandoned, is repaired without a word."""
+        playing = self.playing.pop(game, [])
+        for seen in playing if result and not result.is_lost() else ():
             if self.latest[seen.engine][seen.path] is not seen:
                 continue  # it was replaced again meanwhile
             self.read(seen.engine)  # another run may have written meanwhile

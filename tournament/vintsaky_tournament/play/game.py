@@ -20,6 +20,7 @@ from ..store.layout import is_file
 from ..store.notes import waited_for
 from ..store.scores import is_by_score
 from . import process_tree, programs
+from .log import Log
 from .match import NotesFile, start_failure
 
 if TYPE_CHECKING:
@@ -46,11 +47,13 @@ class Game:
         self.is_alone = False  # whether all has ended that it started
         self.result = -1  # the descriptor of the new file
         self.notes: NotesFile | None = None
+        self.log: Log | None = None
 
     def play(self) -> Outcome:
         """Plays it, and returns how it ended. What has no result is reported."""
         try:
             self.result, log = self.places.new_files()
+            self.log = Log(log)
             if not self.match.is_direct:
                 self.notes = NotesFile(self.name, self.places, self.match)
         except FileNotFoundError:
@@ -60,19 +63,29 @@ class Game:
         folder = self.match.folder if self.match.is_direct else programs.HERE
         try:
             command = self.match.words(self.name)
-            twogtp, failure = programs.start(command, folder, self.result, log)
+            twogtp, failure = programs.start(command, folder, self.result, self.log.end)
         except OSError as error:
             twogtp, failure = 0, output.description(error)
         if failure:
             return self.no_result(f"twogtp can't be started: {failure}")
         self.tree.awaited.add(twogtp)
         self.wait_for(twogtp)
+        self.log.close()
         return self.leave(self.tree.ended.get(twogtp, -signal.SIGKILL))
 
     def wait(self, seconds: float) -> None:
-        """Waits for a signal, so many seconds at most."""
-        received = signal.sigtimedwait([signal.SIGCHLD, *ENDING], max(0, seconds))
-        if received is not None and received.si_signo != signal.SIGCHLD:
+        """Waits for a signal, so many seconds at most. Meanwhile the log is read."""
+        until = time.monotonic() + seconds
+        while True:
+            left = max(0, until - time.monotonic())
+            received = signal.sigtimedwait([signal.SIGCHLD, signal.SIGIO, *ENDING], left)
+            if received is None or received.si_signo != signal.SIGIO:
+                break
+            if self.log:
+                self.log.read()
+            if not left:
+                break
+        if received is not None and received.si_signo in ENDING:
             self.is_stopped = True
         self.is_alone = not self.tree.reap()
 
@@ -151,15 +164,15 @@ class Game:
         """Has the scorer score the game, unless it is asked to end: the result counts anyway."""
         from ..judge.scorer import score_here  # which isn't needed elsewhere
 
-        log = os.open(self.places.new_log, os.O_WRONLY | os.O_APPEND)
+        assert self.log
         own, process = os.getpid(), os.fork()
         if not process:
-            score_here(self.match, self.places.result, result, log, own)
-        os.close(log)
+            score_here(self.match, self.places.result, result, self.log.end, own)
         self.tree.awaited.add(process)
         while process not in self.tree.ended and not self.is_stopped:
             self.wait(FOREVER)
         self.tree.end()
+        self.log.close()
 
     def engine(self, side: Side) -> str:
         """Returns the name of an engine."""

@@ -16,6 +16,9 @@ from .game import ENDING, SAME, play_here, report
 from .match import Match
 
 
+FULL_IN_A_ROW = 10  # games that find the disk full, after which the run ends
+
+
 class Playing(NamedTuple):
     """A game that is played now."""
 
@@ -42,6 +45,7 @@ class Run:
         self.playing: dict[int, Playing] = {}  # by the process of each game
         self.tree = process_tree.ProcessTree()
         self.stopped: int | None = None  # the signal that stopped it
+        self.full_in_a_row = 0  # games that found the disk full
         self.no_space = False  # whether nothing can be written
         self.has_all = False  # whether the games in play were asked to end, since all is known
         # without those that nohup, for example, ignores
@@ -134,6 +138,13 @@ class Run:
 
     # ---- the end of the run
 
+    def end_if_full(self) -> None:
+        """Ends the run where nothing can be written. A game may have filled the disk alone, and
+        what it wrote is gone by now; but not many of them in a row."""
+        is_full = output.write_error(f"{self.folder}/running") is not None
+        if is_full or self.full_in_a_row >= FULL_IN_A_ROW:
+            self.end_without_space()
+
     def end_without_space(self, cause: OSError | None = None) -> None:
         """Asks all games to end, since nothing can be written or begun, and says what to do."""
         if not self.no_space and not self.stopped:
@@ -212,7 +223,7 @@ class Run:
         if is_broken:
             self.tree.end(self.playing)
         result = self.whole(game.places, game.old)
-        self.files.end(game.name, has_result=bool(result))
+        self.files.end(game.name, result)
         if is_broken or outcome is Outcome.STOPPED:
             if status < 0 and not result and not self.is_ending():
                 report(game.name, game.places, f"its process was ended by signal {-status}")
@@ -222,6 +233,7 @@ class Run:
                 outcome = Outcome.NO_RESULT
             game.places.remove()
         os.close(game.lock)
-        if outcome is Outcome.NO_SPACE:
-            self.end_without_space()
+        self.full_in_a_row = self.full_in_a_row + 1 if outcome is Outcome.NO_SPACE else 0
+        if self.full_in_a_row:
+            self.end_if_full()
         return Finished(game.name, Outcome.RESULT if result else outcome, result)

@@ -1,8 +1,8 @@
 """The files of which an engine's command consists on a machine: FOLDER/tried/HOST/files.
 
 Each line is `ENGINE<tab>SIZE<tab>TIME<tab>SHA256<tab>GAME<tab>FILE`, TIME in nanoseconds: the file
-was so before that game, which has a result. A later line of the same engine and file says that it
-was changed, or replaced if the sum differs.
+was so before that game, in which no side was abandoned. A later line of the same engine and file
+says that it was changed, or replaced if the sum differs.
 """
 from __future__ import annotations
 
