@@ -71,6 +71,15 @@ def test_pair_whose_game_has_no_result_is_left_out(runner: Runner) -> None:
     assert done.errors.count("no result: two wasn't started") == 2
     tallied = runner.tally("all", "--sprt", "0", "100").output
     assert tallied == f"{LINE.format(21)}{left_out}\n"
+    # results that these games get later don't reopen it
+    runner.script("two", TWO.replace("exit 7", ":"))
+    for game in ("3_one_two", "3_two_one"):
+        assert runner.tournament("game", "all", game).status == 0
+    assert runner.tally("all", "--sprt", "0", "100").output == tallied
+    assert last_lines(play(runner)) == ["42 of 120 games have a result", tallied[:-1]]
+    # nor does a test of other differences leave them out
+    other = runner.tally("all", "--sprt", "0", "99").output
+    assert ", at the pair of seed 20: 20 pairs, " in other and "left out" not in other
 
 
 def test_two_runs_in_one_folder(runner: Runner) -> None:

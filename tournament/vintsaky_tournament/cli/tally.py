@@ -10,6 +10,7 @@ from ..config.plan_file import read_plan
 from ..output import Mistake
 from ..stats.sprt import Test
 from ..stats.summary import Counts, Summary
+from ..store.left_out import Decided
 from .losses import rules_of
 from .sprt import asked_of
 
@@ -39,7 +40,10 @@ def main(words: Sequence[str]) -> int:
     plan = read_plan(folder)
     asked, leave_out = asked_of(arguments, plan), arguments.last("--no-winner", is_left_out)
     counts = Counts(plan, folder, rules_of(arguments, plan), bool(leave_out))
-    test = Test(counts.pairs, asked, counts.has_failed) if asked else None
+    test: Test | None = None
+    if asked:
+        left_out = Decided(folder, asked.text()).games(counts.games)
+        test = Test(counts.pairs, asked, counts.has_failed, left_out)
     if arguments.has("--json"):
         from ..report.as_json import json_of
 

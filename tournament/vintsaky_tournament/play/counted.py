@@ -9,6 +9,7 @@ from ..stats.pairs import Pairs
 from ..stats.sprt import Test, TestRequest
 from ..stats.standings import leader
 from ..store import results
+from ..store.left_out import Decided
 
 
 class CountedGames:
@@ -26,7 +27,11 @@ class CountedGames:
         for game, result in results.of_all(plan, folder, is_quiet=True):
             if result and game not in left_out:
                 self.pairs.add(game, self.endings.of(game, result).ending, result)
-        self.test = Test(self.pairs, asked, self.failed.__contains__) if asked else None
+        self.test: Test | None = None
+        if asked:
+            self.decided = Decided(folder, asked.text())
+            self.known = self.decided.games(plan.games())
+            self.test = Test(self.pairs, asked, self.failed.__contains__, self.known)
 
     def is_over(self) -> bool:
         """Returns whether there is a test, and it is over."""
@@ -47,6 +52,13 @@ class CountedGames:
         self.failed.add(game)
         if self.test:
             self.test.go_on()
+
+    def keep_left_out(self) -> None:
+        """Keeps the games that the test has left out, where it is over."""
+        if self.test and self.is_over():
+            games = self.test.left_out()
+            if not self.known.issuperset(games):
+                self.decided.add(map(self.pairs.games.name, games))
 
     def standing(self) -> str:
         """Returns who leads, and what the test says, for the line of progress."""

@@ -278,6 +278,8 @@ class Play:
         if not self.share:
             clear_running(self.run.folder)
         self.play()
+        if self.counted_games:
+            self.counted_games.keep_left_out()
         return self.status()
 
     # ---- trials

@@ -7,7 +7,7 @@ first pair at which it accepts a difference: what is played later changes nothin
 from __future__ import annotations
 
 import math
-from typing import TYPE_CHECKING, Callable, NamedTuple, Sequence
+from typing import TYPE_CHECKING, Callable, Collection, NamedTuple, Sequence
 
 from . import scores
 from .pairs import OUTCOMES, Score
@@ -34,19 +34,31 @@ class TestRequest(NamedTuple):
         low, high = self.beta / (1 - self.alpha), (1 - self.beta) / self.alpha
         return Bounds(math.log(low), math.log(high))
 
+    def text(self) -> str:
+        """Returns it in words, which no other one has."""
+        numbers = (*self.differences, self.alpha, self.beta)
+        return " ".join([*self.engines, *(f"{number:g}" for number in numbers)])
+
 
 class Test:
     """A sequential test of the first of two engines against the second. It is given which games
-    have no result after their try."""
+    have no result after their try, and which had none when the test was over before."""
 
-    def __init__(self, pairs: Pairs, asked: TestRequest, has_failed: Callable[[int], bool]) -> None:
+    def __init__(
+        self,
+        pairs: Pairs,
+        asked: TestRequest,
+        has_failed: Callable[[int], bool],
+        known_left_out: Collection[int] = (),
+    ) -> None:
         self.pairs, self.has_failed, self.bounds = pairs, has_failed, asked.bounds()
+        self.known_left_out = known_left_out
         self.engines, self.differences = list(asked.engines), asked.differences
         (self.pairing,) = (each for each in pairs.pairings() if set(each[:2]) == set(self.engines))
         self.counts = [0] * 5
         self.decision: int | None = None
         self.seed = 0  # of the last pair that was looked at, which is where the test is over
-        self.skipped: list[int] = []  # games of pairs that are left out since one has no result
+        self.skipped: list[int] = []  # games of pairs that are left out
         self.known: tuple[set[int], set[int]] = (set(), set())  # the moves of pairs that count
         self.go_on()
 
@@ -70,19 +82,26 @@ class Test:
     def go_on(self) -> None:
         """Counts the pairs that are there by now."""
         while games := self.awaited():
-            missing = [game for game in games if self.pairs.scores[game] == Score.NONE]
-            failed = [game for game in missing if self.has_failed(game)]
-            if missing and not failed:
+            is_left_out = any(map(self.is_left_out, games))
+            if not is_left_out and any(self.is_missing(game) for game in games):
                 return
             self.seed += 1
-            if missing:
-                self.skipped += missing
+            if is_left_out:
+                self.skipped += games
             else:
                 self.add(games)
 
+    def is_missing(self, game: int) -> bool:
+        """Returns whether a game has no result."""
+        return self.pairs.scores[game] == Score.NONE
+
+    def is_left_out(self, game: int) -> bool:
+        """Returns whether the pair of a game is left out because of this game."""
+        return game in self.known_left_out or self.is_missing(game) and self.has_failed(game)
+
     def left_out(self) -> list[int]:
         """Returns the games without a result after their try, whose pairs are left out."""
-        return [game for game in self.skipped if self.has_failed(game)]
+        return [game for game in self.skipped if self.is_left_out(game)]
 
     def add(self, games: Sequence[int]) -> None:
         """Counts a pair, unless it is out or repeats an earlier one."""
