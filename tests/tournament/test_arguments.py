@@ -308,7 +308,7 @@ def test_options_that_a_plan_does_not_keep(
 OF_PLAN = ["--engine", "--seeds", "--gauntlet", "--limit", "--move-limit", "--start-limit"]
 OF_PLAN += ["--clock", "--margin", "--scorer", "--openings", "--direct"]
 OF_TEST = ["--sprt", "--between", "--alpha", "--beta"]
-OF_PLAY = [*OF_PLAN, "--jobs", "--again", "--task", "--time-left", *OF_TEST, "--dry-run"]
+OF_PLAY = [*OF_PLAN, "--jobs", "--pin", "--again", "--task", "--time-left", *OF_TEST, "--dry-run"]
 OF_LOSSES = ["--abandoned"] * 3 + ["--late"]
 OF_TALLY = [*OF_LOSSES, "--no-winner", "--no-winner", *OF_TEST, "--json"]
 OF_GAMES = ["0", "1", "2", "69", "130, 143", "141"]

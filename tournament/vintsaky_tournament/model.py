@@ -35,6 +35,15 @@ class Side(enum.IntEnum):
 SIDES = tuple(Side)
 
 
+VARIABLES = re.compile("%slot|%s")  # of a command
+
+
+def with_values(text: str, seed: int, slot: int) -> str:
+    """Returns a text of a command with the game's seed and its slot: one of as many numbers from 0
+    up as games are played at once."""
+    return VARIABLES.sub(lambda found: str(seed if found[0] == "%s" else slot), text)
+
+
 class Engine(NamedTuple):
     """An engine of a plan."""
 
@@ -43,7 +52,7 @@ class Engine(NamedTuple):
 
     def has_seed(self) -> bool:
         """Returns whether its command has the seed of the game."""
-        return "%s" in self.command
+        return "%s" in VARIABLES.findall(self.command)
 
     def words(self, is_direct: bool) -> list[str]:
         """Returns the words of its command: as a shell splits it, or directly as twogtp does."""

@@ -124,7 +124,10 @@ def do_play(arguments: Arguments) -> int:
         )
     if arguments.has("--dry-run"):
         return dry_run(prepared, task, arguments.has("--again"))
-    play = Play(Run(plan, folder.place, prepared.twogtp), plan, jobs, task, left)
+    run = Run(plan, folder.place, prepared.twogtp)
+    if arguments.has("--pin"):
+        run.pin(jobs)
+    play = Play(run, plan, jobs, task, left)
     status = play.try_added(folder)
     if status is not None:
         return status

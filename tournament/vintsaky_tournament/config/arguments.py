@@ -28,6 +28,7 @@ OF_TEST: Options = {
 QUOTED = "--engine 'one=gtp_engine --policy random --seed %s'"
 OF_PLAY: Options = {  # which no plan keeps
     "--jobs": Option("a number", "--jobs 4"),
+    "--pin": None,
     "--again": None,
     "--task": Option("K/T", "--task 3/100"),
     "--time-left": Option("a time", "--time-left 30:00"),
@@ -156,7 +157,7 @@ class Arguments:
             return f"{self.command} has no option {name}: it is {ELSEWHERE[name]}"
         import difflib  # which isn't needed elsewhere
 
-        close = difflib.get_close_matches(name, list(self.known), 1)
+        close = difflib.get_close_matches(name, list(self.known), 1, 0.65)
         if close:
             return f"{self.command} has no option {name}: is it {close[0]}?"
         help_has = f"{self.program} --help has those that it has"

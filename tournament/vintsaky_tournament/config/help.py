@@ -18,8 +18,10 @@ usage: tournament play FOLDER --engine NAME=CMD --engine NAME=CMD ..
 """
 PLAN = """\
   --engine NAME=CMD  an engine and its command, split at spaces; quote what has
-                     a space as for a shell. %s in CMD is the game's seed. NAME
-                     has letters, digits, . + -
+                     a space as for a shell. %s in CMD is the game's seed, and
+                     %slot a number from 0 to N-1 that no other game has at the
+                     moment, where --jobs N plays N games at once: it chooses a
+                     GPU or a port. NAME has letters, digits, . + -
   --seeds N          seeds 1 to N; with each seed every two engines play two
                      games, one with each colour. You can raise N later: games
                      that were played still count [10]
@@ -90,6 +92,7 @@ PLAY = """\
 """
 MORE_OF_PLAY = (
     """\
+  --pin              each of the N games gets its own share of the processors
   --again            play games with an unfit or abandoned side again, and try
                      their engines again
   --task K/T         play only the games K, K+T, K+2T .. of the plan
@@ -150,8 +153,8 @@ usage: tournament play FOLDER --engine NAME=CMD --engine NAME=CMD ..
            [--gauntlet NAME]
            [--seeds N] [--limit SECONDS] [--move-limit SECONDS]
            [--start-limit SECONDS] [--clock CLOCK] [--margin SECONDS]
-           [--scorer CMD] [--openings FILE] [--direct] [--jobs N] [--again]
-           [--task K/T] [--time-left TIME] [--dry-run]
+           [--scorer CMD] [--openings FILE] [--direct] [--jobs N] [--pin]
+           [--again] [--task K/T] [--time-left TIME] [--dry-run]
            [--sprt ELO0 ELO1 [--between NAME NAME] [--alpha N] [--beta N]]
            [-- OPTION ..]
        tournament play FOLDER ..            if FOLDER has a plan

@@ -11,7 +11,7 @@ import contextlib
 import os
 import signal
 import time
-from typing import TYPE_CHECKING, NoReturn
+from typing import TYPE_CHECKING, Collection, NoReturn
 
 from .. import output, processes
 from ..model import NOT_STARTED, GameId, Outcome, Result, Side
@@ -228,15 +228,19 @@ def report(name: str, places: Places, reason: str) -> None:
     output.report(f"{name}: {text}")
 
 
-def play_here(name: str, places: Places, match: Match, parent: int) -> NoReturn:
+def play_here(
+    name: str, places: Places, match: Match, parent: int, processors: Collection[int]
+) -> NoReturn:
     """Plays a game in this process, a new fork of the run in which all signals of ENDING are
-    blocked, and ends the process."""
+    blocked, and ends the process. It uses these processors, or all where none are given."""
     outcome = Outcome.BROKEN
     try:
         os.setsid()
         processes.set_process_name(f"game {name}")
         signal.signal(signal.SIGTERM, signal.SIG_DFL)
         process_tree.adopt_orphans()
+        if processors:
+            os.sched_setaffinity(0, processors)
         if processes.end_with_parent(parent, signal.SIGTERM):
             outcome = Outcome.STOPPED
         else:

@@ -8,7 +8,7 @@ import sys
 from typing import TYPE_CHECKING, Sequence
 
 from .. import output
-from ..model import COLOURS, GameId, Plan, Side
+from ..model import COLOURS, GameId, Plan, Side, with_values
 from ..store import notes, results
 from . import programs
 
@@ -40,6 +40,7 @@ class Match:
         }
         self.folder = os.getcwd() if plan.folder is None else plan.folder
         self.between = programs.between()
+        self.slot = 0  # of the game, in the process that plays it
         self.code: bytes | None = None
 
     def prepare(self) -> None:
@@ -49,14 +50,14 @@ class Match:
 
     def command(self, engine: str, seed: int) -> list[str]:
         """Returns the words of an engine's command, in a game with this seed."""
-        return [word.replace("%s", str(seed)) for word in self.commands[engine]]
+        return [with_values(word, seed, self.slot) for word in self.commands[engine]]
 
     def words(self, name: str) -> list[str]:
         """Returns the command of twogtp for the game of this name."""
         game = GameId.parse(name)
         if self.is_direct:
             commands = (self.plan.engines[engine].command for engine in game.engines)
-            black, white = (command.replace("%s", str(game.seed)) for command in commands)
+            black, white = (with_values(command, game.seed, self.slot) for command in commands)
         else:
             black, white = (f"{self.between} {colour}" for colour in COLOURS)
         engines = ["--black", black, "--white", white]

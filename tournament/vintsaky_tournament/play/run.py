@@ -26,6 +26,7 @@ class Playing(NamedTuple):
     places: Places
     lock: int
     old: int | None  # the inode of the result that is to be replaced
+    slot: int
 
 
 class Finished(NamedTuple):
@@ -45,6 +46,7 @@ class Run:
         self.playing: dict[int, Playing] = {}  # by the process of each game
         self.tree = process_tree.ProcessTree()
         self.stopped: int | None = None  # the signal that stopped it
+        self.pinned: list[list[int]] = []  # the processors of each slot; all have all if it's empty
         self.full_in_a_row = 0  # games that found the disk full
         self.no_space = False  # whether nothing can be written
         self.has_all = False  # whether the games in play were asked to end, since all is known
@@ -115,13 +117,15 @@ class Run:
                 return result
             self.match.prepare()
             self.files.look(name, GameId.parse(name).engines)
-            own = os.getpid()
+            own, slot = os.getpid(), self.free_slot()
             process = os.fork()
             if not process:
                 self.close_locks()
-                play_here(name, places, self.match, own)
+                self.match.slot = slot
+                processors = self.pinned[slot % len(self.pinned)] if self.pinned else ()
+                play_here(name, places, self.match, own, processors)
             self.tree.awaited.add(process)
-            self.playing[process] = Playing(name, places, lock, old)
+            self.playing[process] = Playing(name, places, lock, old, slot)
             is_passed_on = True
         except InTheWay:
             places.remove()
@@ -130,6 +134,19 @@ class Run:
             if not is_passed_on:
                 os.close(lock)
         return None
+
+    def free_slot(self) -> int:
+        """Returns the lowest number that no game has which is played now."""
+        taken = {game.slot for game in self.playing.values()}
+        return next(slot for slot in range(len(taken) + 1) if slot not in taken)
+
+    def pin(self, jobs: int) -> None:
+        """Gives each slot its own processors, where so many games are played at once. If there are
+        fewer processors, some share one."""
+        all_of = sorted(os.sched_getaffinity(0))
+        count = min(jobs, len(all_of))
+        ends = [len(all_of) * slot // count for slot in range(count + 1)]
+        self.pinned = [all_of[begin:end] for begin, end in zip(ends, ends[1:])]
 
     def close_locks(self) -> None:
         """Closes the locks of the other games, in the process of one."""
