@@ -157,6 +157,23 @@ def test_options_of_the_command_line_count(runner: Runner) -> None:
     assert plan_of(runner, "a") == f"folder FOLDER\n{OF_SMALL}{options}{last}".splitlines()
 
 
+@pytest.mark.parametrize(
+    "value, report",
+    [
+        pytest.param("[10, 0.5]", "--sprt needs the lower difference first", id="two numbers"),
+        pytest.param(
+            "5", "a.toml: sprt needs two differences in Elo, such as sprt = [0, 10]", id="one"
+        ),
+    ],
+)
+def test_key_with_two_values(value: str, report: str, runner: Runner) -> None:
+    runner.write("a.toml", f"sprt = {value}\n{SMALL}")
+    done = runner.tournament("play", "a.toml")
+    assert done.status == 2
+    assert done.errors.startswith(f"tournament: {report}")
+    assert runner.tournament("plan", "a.toml") == (0, "", "")  # no plan keeps it
+
+
 # ---- mistakes
 
 MISTAKES = {
@@ -212,6 +229,15 @@ def test_file_that_is_not_read(runner: Runner) -> None:
     done = runner.tournament("play", "a.toml", "--", "--size", "3")
     why = "options of twogtp belong into a.toml, such as size = 9: leave out --"
     assert done == (2, "", f"tournament: {why}\n")
+
+
+@pytest.mark.parametrize("command", ["tally", "tournament list", "tournament export"])
+def test_file_in_place_of_the_directory(command: str, runner: Runner) -> None:
+    runner.write("a.toml", SMALL)
+    more = ["--csv"] if command.endswith("export") else []
+    line = "a.toml is a file: give the directory of the tournament, such as a\n"
+    done = runner.run(*command.split(), "a.toml", *more)
+    assert done == (2, "", f"{command.split()[0]}: {line}")
 
 
 # ---- Python that reads no TOML

@@ -14,7 +14,7 @@ from ..play.check import Check, Sample, opening_length, seconds_of_games, usual_
 from ..play.known import NO_START
 from ..play.progress import as_text
 from .dry_run import names_of
-from .play import prepare, with_file
+from .play import check_scorer, prepare, with_file
 
 ELO = 480  # half of the interval's width after one pair, about
 
@@ -28,6 +28,7 @@ def do_check(arguments: Arguments) -> int:
     jobs = arguments.last("--jobs", number) or processors()
     if prepared.warning:
         output.report(prepared.warning)
+    check_scorer(plan)
     place, status = tempfile.mkdtemp(prefix="tournament."), 1
     try:
         check = Check(plan, place, prepared.twogtp, jobs)
@@ -40,10 +41,11 @@ def do_check(arguments: Arguments) -> int:
     except NoStart as problem:
         output.report(problem.text)
         status = NO_START
-    if status in (1, NO_START):
-        output.report(f"what was written is in {place}")
-    else:
-        shutil.rmtree(place)
+    finally:
+        if status in (1, NO_START):
+            output.report(f"what was written is in {place}")
+        else:
+            shutil.rmtree(place)
     return status
 
 

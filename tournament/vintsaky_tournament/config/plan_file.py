@@ -70,6 +70,12 @@ def read_text(place: str) -> bytes:
             return file.read()
     except FileNotFoundError:
         raise Mistake(f"there is no {place}: tournament plan makes it") from None
+    except NotADirectoryError:
+        file_name = os.path.dirname(place)
+        raise Mistake(
+            f"{file_name} is a file: give the directory of the tournament, such as "
+            f"{os.path.splitext(file_name)[0]}"
+        ) from None
     except OSError as error:
         raise Mistake(f"{place} can't be read: {error.strerror}") from None
 
