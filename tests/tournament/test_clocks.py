@@ -337,6 +337,28 @@ def test_last_millisecond_counts_for_the_engine() -> None:
     assert side.seconds_left() == 0
 
 
+# It waits for further input before it answers time_left, and makes a file `early` where that comes.
+WAITS_FOR_MORE = f"""\
+#!{sys.executable}
+import os, select, sys
+while data := os.read(0, 65536):
+    lines = data.decode().splitlines()
+    for line in lines:
+        if "time_left" in line and (line != lines[-1] or select.select([0], [], [], 0.5)[0]):
+            open("early", "w")
+        text = {{"list_commands": "time_left", "genmove b": "D4"}}.get(line, "")
+        os.write(1, f"= {{text}}".encode() + bytes([10, 10]))
+        if line == "quit":
+            sys.exit()
+"""
+
+
+def test_genmove_waits_for_the_answer_to_time_left(runner: Runner) -> None:
+    between = Between(runner, runner.script("waits", WAITS_FOR_MORE), clock="absolute 600")
+    assert talk(between, "clear_board, genmove b, quit").output == "= \n\n= D4\n\n= \n\n"
+    assert not (runner.folder / "early").exists()
+
+
 class Talk(NamedTuple):
     """A conversation in which no time is left, with what was read of the engine."""
 
@@ -347,6 +369,9 @@ class Talk(NamedTuple):
 
     def from_engine(self, data: bytes) -> bytes:
         self.read.append(data)
+        return b""
+
+    def take_released(self) -> bytes:
         return b""
 
 

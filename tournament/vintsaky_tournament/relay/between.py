@@ -216,6 +216,7 @@ class Relay:
             if output in readable:
                 data = os.read(output, CHUNK)
                 self.to_caller += self.conversation.from_engine(data)
+                self.to_engine += self.conversation.take_released()
                 if not data:
                     return False
             self.write()

@@ -85,6 +85,8 @@ class Conversation:
         self.answer = b""  # the beginning of the engine's answer, without control characters
         self.held: bytes | None = None  # the bytes of a success that twogtp gets in another form
         self.own_answer: bytes | None = None  # to a command that twogtp didn't send
+        self.deferred = b""  # what the engine gets once it has answered that
+        self.released = b""  # what it gets now
         self.at_line_start = True  # of the engine's output
         self.in_answer = False
         self.has_answered = False
@@ -129,7 +131,23 @@ class Conversation:
         used = self.processor_seconds() if self.processor_seconds and name == b"genmove" else 0.0
         self.waiting.append(Command(text, name, opening_move))
         self.waiting[-1].used = used
-        return b"".join([each + b"\n" for each in own]) + line
+        return self.defer(b"".join([each + b"\n" for each in own]), line, name == b"genmove")
+
+    def defer(self, own: bytes, line: bytes, is_genmove: bool) -> bytes:
+        """Returns what the engine gets now of own commands and a line behind them: a genmove waits
+        for their answers, with which its time begins."""
+        if self.deferred:
+            self.deferred += own + line
+            return b""
+        if own and is_genmove:
+            self.deferred = line
+            return own
+        return own + line
+
+    def take_released(self) -> bytes:
+        """Returns what the engine gets now of what was deferred."""
+        released, self.released = self.released, b""
+        return released
 
     def moves_to_come(self) -> list[bytes]:
         """Returns the moves that there are once all waiting commands have succeeded."""
@@ -199,6 +217,8 @@ class Conversation:
         is_success = self.answer[:1] == SUCCEEDED
         if self.timing and self.own_answer is not None:
             self.timing.take_answer(command.name, self.own_answer[1:] if is_success else b"")
+            if not self.waiting or not self.waiting[0].is_own:
+                self.released, self.deferred = self.deferred, b""
             return None
         if self.held is not None and command.opening_move:
             return self.end_opening_move(command.opening_move)
