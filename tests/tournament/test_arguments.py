@@ -310,7 +310,7 @@ OF_PLAN += ["--clock", "--margin", "--scorer", "--openings", "--direct"]
 OF_TEST = ["--sprt", "--between", "--alpha", "--beta"]
 OF_PLAY = [*OF_PLAN, "--jobs", "--pin", "--again", "--task", "--time-left", *OF_TEST, "--dry-run"]
 OF_LOSSES = ["--abandoned"] * 3 + ["--late"]
-OF_TALLY = [*OF_LOSSES, "--no-winner", "--no-winner", *OF_TEST, "--json"]
+OF_TALLY = [*OF_LOSSES, "--no-winner", "--no-winner", *OF_TEST, "--by", "--json"]
 OF_GAMES = ["0", "1", "2", "69", "130, 143", "141"]
 FORMS = ["--pgn", "--csv", "--jsonl", "--sgf"]
 

@@ -24,6 +24,15 @@ def is_left_out(name: str, value: str) -> bool:
     return value == "out"
 
 
+def part_name(name: str, value: str) -> str:
+    """Returns by what games are to be counted."""
+    from ..stats.breakdown import PARTS  # which isn't needed elsewhere
+
+    if value not in PARTS:
+        raise Mistake(f"{name} needs {', '.join(PARTS)} after it, and not '{value}'")
+    return value
+
+
 def main(words: Sequence[str]) -> int:
     """Writes the tally of a folder, and returns the status."""
     if words and words[0] in ("-V", "--version"):
@@ -39,6 +48,7 @@ def main(words: Sequence[str]) -> int:
     (folder,) = arguments.places
     plan = read_plan(folder)
     asked, leave_out = asked_of(arguments, plan), arguments.last("--no-winner", is_left_out)
+    by = arguments.last("--by", part_name)
     counts = Counts(plan, folder, rules_of(arguments, plan), bool(leave_out))
     test: Test | None = None
     if asked:
@@ -48,6 +58,10 @@ def main(words: Sequence[str]) -> int:
         from ..report.as_json import json_of
 
         output.write(output.STDOUT, json_of(Summary(counts), test))
+    elif by:
+        from ..report.parts import lines
+
+        output.write_lines(output.STDOUT, lines(counts, by))
     elif test:
         from ..report.text import line_of_test
 

@@ -304,7 +304,7 @@ status: 0  all of these games are scored
 """,
     "tally": """\
 usage: tally FOLDER [--abandoned half|out|loses] [--late half|out|loses]
-           [--no-winner half|out] [--json]
+           [--no-winner half|out] [--json] [--by colour|opening|length]
            [--sprt ELO0 ELO1 [--between NAME NAME] [--alpha N] [--beta N]]
        tally --version
 
@@ -328,6 +328,8 @@ intervals that follow from whole pairs.
 """
     + BETWEEN
     + """\
+  --by KIND          print the scores of games by colour, opening or length,
+                     with intervals; those by opening or length are Black's
   --json             print JSON: scores are from 0 to 1, an infinite Elo is
                      null, and pairs that repeat each other count as one in
                      pairs_in_interval

@@ -6,6 +6,7 @@ import math
 from typing import Any
 
 from ..model import Side
+from ..stats.breakdown import PARTS, Part
 from ..stats.pairs import PairCounts
 from ..stats.scored import Scored
 from ..stats.sprt import Test
@@ -34,6 +35,7 @@ def json_of(summary: Summary, test: Test | None = None) -> str:
         "engines": [of_engine(row, blames[row.name]) for row in summary.order],
         **of_standings(summary.standings()),
         "pairs": [of_pairing(row) for row in summary.played()],
+        **{f"by_{name}": of_parts(parts(counts)) for name, parts in PARTS.items()},
         "same": [[name(game) for game in group] for group in counts.pairs.same()],
         "damaged": counts.damaged(),
         "no_result": dict(without_result(counts)),
@@ -79,6 +81,14 @@ def of_engine(row: EngineRow, blames: dict[str, int]) -> dict[str, Any]:
 def of_pairing(row: PairingRow) -> dict[str, Any]:
     """Returns what two engines have of each other, as the first one sees it."""
     return {"engines": [row.first, row.second], **of_games(row.games), **of_pairs(row.pairs)}
+
+
+def of_parts(parts: list[Part]) -> list[dict[str, Any]]:
+    """Returns parts of the games, each with its score."""
+    return [
+        {"name": name, "games": games, "score": score, "interval": [low, high]}
+        for name, games, score, low, high in parts
+    ]
 
 
 def of_standings(standings: Standings) -> dict[str, Any]:

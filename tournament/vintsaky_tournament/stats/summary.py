@@ -15,6 +15,7 @@ if TYPE_CHECKING:
     from .standings import Standings
 
 OTHERS_TO_LOOK_INTO = (Way.UNFIT, Way.ABANDONED, Way.LATE, Way.TIME)
+LENGTH = 50  # moves of a step, by which games are counted
 PREFIX = "tournament: "  # of the line of a log that says why a game has no result
 
 
@@ -33,6 +34,7 @@ class Counts:
         self.restarts: Counter[str] = Counter()  # of each engine
         self.restarted = 0  # games
         self.pairs = Pairs(plan, self.out)
+        self.lengths: dict[int, Counter[int]] = {}  # of games by steps of LENGTH: their scores
         endings = Endings(plan, folder, rules)
         for game, result in results.of_all(plan, folder):
             self.states[game] = State.WHOLE if result else State.DAMAGED
@@ -40,6 +42,8 @@ class Counts:
                 sides, (ending, restarts) = game % len(self.endings), endings.of(game, result)[:2]
                 self.endings[sides][ending] = self.endings[sides].get(ending, 0) + 1
                 self.pairs.add(game, ending, result)
+                lengths = self.lengths.setdefault(result.length // LENGTH, Counter())
+                lengths[self.pairs.scores[game]] += 1
                 if any(restarts):
                     self.add_restarts(self.games.sides[sides], restarts)
         self.all_endings: Counter[Ending] = Counter()
