@@ -8,6 +8,7 @@ import re
 import shutil
 import signal
 import subprocess
+import time
 from pathlib import Path
 from subprocess import CompletedProcess
 from typing import Any, Dict, Iterator, List, NamedTuple
@@ -16,6 +17,8 @@ from tests.shared.processes import TIMEOUT, TOP, Process, process_tree, run, wai
 
 LONG = 30 * TIMEOUT  # a proof of these crates takes seconds, and on a busy machine minutes
 COPIED = ["build", "demo", "test", "release", "packaging"]
+# Where `rt ci` has proved the same before, it leaves no library. So no two runs are alike.
+RUN = time.time_ns()
 FILES = {
     "HANDLES": "Handles allowed: none.\n",
     "crates.txt": """\
@@ -23,12 +26,13 @@ small_base:
 small: small_base
 vintsaky staticlib: small_base
 """,
-    "crates/small_base/src/lib.rt": """\
+    "crates/small_base/src/lib.rt": f"""\
 #![tactic(auto)]
 
-pub fn number() -> usize {
+// run {RUN}
+pub fn number() -> usize {{
     7
-}
+}}
 """,
     "crates/small/src/main.rt": """\
 #![tactic(auto)]
