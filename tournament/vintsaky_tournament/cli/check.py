@@ -35,7 +35,9 @@ def do_check(arguments: Arguments) -> int:
         samples = played(check)
         if check.run.stopped:
             status = check.run.stop_status()
-        elif all(sample.is_right() for sample in samples):
+        elif failed := [sample.name for sample in samples if not sample.is_right()]:
+            output.report(f"a side failed, or there is no result: {', '.join(failed)}")
+        else:
             say_time(plan, samples, names_of(plan, folder, None, False), jobs)
             status = 0
     except NoStart as problem:
