@@ -1,10 +1,11 @@
-"""A game's record in SGF (FF[4]): a column and a row of letters, from the upper left."""
+"""The results in SGF: a file for each game."""
 from __future__ import annotations
 
 import contextlib
 import os
 from typing import Iterable, Sequence
 
+from .. import sgf
 from ..config.rules import PASS, column_and_row, handicap_points
 from ..config.setup import Setup
 from ..model import Ending, Plan, Side, Way
@@ -30,38 +31,34 @@ class Board:
 
     def text(self, record: Record) -> str:
         """Returns the record of a game."""
+        moves = record.result.moves(self.first())
+        nodes = ({LETTERS[side]: self.vertex(vertex)} for side, vertex in moves)
+        return sgf.write([self.root(record), *nodes])
+
+    def root(self, record: Record) -> dict[str, sgf.Values]:
+        """Returns the properties of a game's root."""
         version = record.twogtp_version
         properties = {
-            "FF": 4,
-            "GM": 1,
+            "FF": "4",
+            "GM": "1",
             "CA": "UTF-8",
-            "AP": version and f"twogtp:{escaped(version)}",
-            "SZ": self.size,
+            "AP": version and sgf.composed_value("twogtp", version),
+            "SZ": str(self.size),
             "KM": self.komi,
-            "HA": self.handicap or None,
+            "HA": str(self.handicap) if self.handicap else None,
             "PB": record.black,
             "PW": record.white,
             "RE": result(record.verdict, record.ending),
             "GN": record.game,
-            "GC": record.rule,
-            "C": record.verdict,
+            "GC": sgf.text_value(record.rule),
+            "C": sgf.text_value(record.verdict),
+            "AB": [sgf.point_value(stone, self.size) for stone in self.stones],
         }
-        root = "".join(
-            f"{name}[{value}]" for name, value in properties.items() if value is not None
-        )
-        if self.stones:
-            root += "AB" + "".join(f"[{self.point(*stone)}]" for stone in self.stones)
-        moves = record.result.moves(self.first())
-        nodes = "".join(f";{LETTERS[side]}[{self.vertex(vertex)}]" for side, vertex in moves)
-        return f"(;{root}\n{nodes})\n"
+        return {name: value for name, value in properties.items() if value}
 
     def vertex(self, vertex: str) -> str:
-        """Returns a move; a pass is empty."""
-        return "" if vertex == PASS else self.point(*column_and_row(vertex))
-
-    def point(self, column: int, row: int) -> str:
-        """Returns a point, whose column and row are counted from 1, from the lower left."""
-        return "".join(chr(ord("a") + at) for at in (column - 1, self.size - row))
+        """Returns the value of a move."""
+        return sgf.point_value(None if vertex == PASS else column_and_row(vertex), self.size)
 
 
 def result(verdict: str, ending: Ending) -> str:
@@ -72,11 +69,6 @@ def result(verdict: str, ending: Ending) -> str:
         return "Void"
     won = verdict[2:] if ending.way is Way.WON else WON_BY.get(ending.way, "F")
     return f"{LETTERS[ending.winner]}+{won}"
-
-
-def escaped(text: str) -> str:
-    """Returns a text within brackets, in front of a colon or behind it."""
-    return "".join(f"\\{each}" if each in "\\]:" else each for each in text)
 
 
 def write_records(records: Iterable[Record], plan: Plan, folder: str) -> None:
