@@ -187,21 +187,19 @@ class Runner:
 
     def pass_trials(self, folder: str = "all", *names: str) -> None:
         """Has these engines of a plan, or all of them, pass for tried on this machine."""
-        lines = [
-            line.split(" ", 2) for line in (self.folder / folder / "plan").read_text().splitlines()
-        ]
-        where = next((line[1] for line in lines if line[0] == "folder"), str(self.folder))
-        is_direct = ["direct"] in lines or all(line[0] != "folder" for line in lines)
-        options = [line[1] for line in lines if line[0] == "option"]
+        from .inside import module  # which needs this module
+
+        plan = module("config.plan_file").read_plan(str(self.folder / folder))
+        where, options = plan.folder or str(self.folder), plan.options
         size, komi = (
             options[options.index(name) + 1] if name in options else default
             for name, default in (("--size", "19"), ("--komi", "6.5"))
         )
-        board = f"size {size} komi {komi} handicap 0{' directly' if is_direct else ''}"
+        board = f"size {size} komi {komi} handicap 0{' directly' if plan.is_direct else ''}"
         place = self.folder / folder / "tried" / os.uname().nodename
         place.mkdir(parents=True, exist_ok=True)
-        commands = {line[1]: line[2] for line in lines if line[0] == "engine"}
-        passed = [f"passed {commands[name]}\t{where}\t{board}\n" for name in names or commands]
+        commands = [plan.engines[name].command for name in names or plan.engines]
+        passed = [f"passed {command}\t{where}\t{board}\n" for command in commands]
         (place / "passed").write_text("".join(passed))
 
 

@@ -273,8 +273,8 @@ def test_version_is_that_of_the_programs(option: str, planned: Runner) -> None:
     ],
 )
 def test_forms_of_options(words: List[str], runner: Runner) -> None:
-    plan = f"folder {runner.folder}\nengine one {RANDOM} %s\nengine two cat\n"
-    plan += "option --size=5\nstart-limit 60\nseeds 3\nlimit 20\n"
+    plan = f'version = 1\nfolder = "{runner.folder}"\ntwogtp = ["--size=5"]\nstart-limit = 60\n'
+    plan += f'seeds = 3\nlimit = 20\n\n[engines]\none = "{RANDOM} %s"\ntwo = "cat"\n'
     for _ in range(2):
         assert runner.tournament("plan", *words, "--", "--size=5") == (0, "", "")
         assert (runner.folder / "all/plan").read_text() == plan

@@ -502,7 +502,7 @@ def test_limit_is_what_the_clocks_of_100_moves_allow(
     words = ["--clock", clock, *margin, "--", "--max-moves", "100"]
     assert runner.tournament("plan", "all", *both, *words).status == 0
     lines = (runner.folder / "all/plan").read_text().splitlines()
-    assert f"limit {limit}" in lines and f"clock {clock}" in lines
+    assert f"limit = {limit}" in lines and f'clock = "{clock}"' in lines
 
 
 def test_limit_that_is_given_stays(runner: Runner) -> None:
@@ -510,4 +510,4 @@ def test_limit_that_is_given_stays(runner: Runner) -> None:
     runner.tournament("plan", "all", *both, "--clock", "absolute 900", "--limit", "700")
     assert runner.tournament("plan", "all", "--seeds", "20").status == 0
     lines = (runner.folder / "all/plan").read_text().splitlines()
-    assert {"limit 700", "clock absolute 900", "seeds 20"} < set(lines)
+    assert {"limit = 700", 'clock = "absolute 900"', "seeds = 20"} < set(lines)

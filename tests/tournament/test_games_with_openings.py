@@ -133,8 +133,8 @@ def test_game_is_the_same_with_an_engine_that_is_restarted(
     moves = played(runner).moves
     (runner.folder / "all/games" / GAME).unlink()
     plan = runner.folder / "all/plan"
-    odd = f"engine {side} ./odd ends over '{words}'"
-    plan.write_text(plan.read_text().replace(f"engine {side} gtp_engine", odd))
+    odd = f"{side} = \"./odd ends over '{words}'\""
+    plan.write_text(plan.read_text().replace(f'{side} = "gtp_engine"', odd))
     runner.pass_trials()
     game = played(runner)
     restarts = {"one": "1 0", "two": "0 1"}[side]

@@ -39,7 +39,7 @@ def test_gauntlet(runner: Runner) -> None:
     assert runner.tournament("plan", "all", *words) == (0, "", "")
     names = games(("one", "two"), ("two", "three"))
     assert runner.tournament("list", "all").output.splitlines() == names
-    assert "gauntlet two\n" in (runner.folder / "all/plan").read_text()
+    assert 'gauntlet = "two"\n' in (runner.folder / "all/plan").read_text()
     assert runner.tournament("play", "all")[::2] == (0, "")
     assert sorted(runner.games()) == sorted(names)
     lines = [line.split("  ")[0] for line in runner.tally("all").output.splitlines()]

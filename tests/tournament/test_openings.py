@@ -9,6 +9,7 @@ import pytest
 from tests.references.engine import game as rules
 from tests.references.engine import values
 
+from .inside import module
 from .runner import TWO, Done, Runner, engines
 
 NINE = ["--", "--size", "9"]
@@ -117,8 +118,8 @@ def test_plan_has_the_openings(
     text: str, options: List[str], openings: List[str], runner: Runner
 ) -> None:
     assert plan_with(runner, text, *options) == (0, "", "")
-    lines = (runner.folder / "all/plan").read_text().splitlines()
-    assert [line[8:] for line in lines if line.startswith("opening ")] == openings
+    plan = module("config.plan_file").read_plan(str(runner.folder / "all"))
+    assert plan.openings == openings
 
 
 # ---- the rules, by random games of the reference
@@ -283,32 +284,28 @@ def test_file_may_be_removed(runner: Runner) -> None:
 
 
 @pytest.mark.parametrize(
-    "options, lines, report",
+    "options, is_old, report",
     [
         pytest.param(
-            ["--direct"],
-            ["folder", "start-limit"],
-            "with --direct, so it can't have --openings",
-            id="direct",
+            ["--direct"], False, "with --direct, so it can't have --openings", id="direct"
         ),
-        pytest.param([], ["folder", "start-limit"], "with no openings", id="without openings"),
+        pytest.param([], False, "with no openings", id="without openings"),
         pytest.param(
-            [],
-            [],
+            ["--direct"],
+            True,
             "by earlier scripts, which had none, so it can't have --openings",
             id="by earlier scripts",
         ),
     ],
 )
 def test_directory_gets_no_openings(
-    options: List[str], lines: List[str], report: str, runner: Runner
+    options: List[str], is_old: bool, report: str, runner: Runner
 ) -> None:
     runner.write("openings", TWO_OPENINGS)
     runner.tournament("plan", "all", *TWO, *options, *NINE)
     place = runner.folder / "all/plan"
-    text = place.read_text().splitlines(keepends=True)
-    dropped = {"folder", "start-limit"} - set(lines)
-    place.write_text("".join(line for line in text if line.split()[0] not in dropped))
+    if is_old:
+        place.write_text(place.read_text().replace(f'"{runner.folder}"', '""'))
     done = runner.tournament("play", "all", "--openings", "openings")
     assert done == (2, "", f"tournament: all was begun {report}: take another directory\n")
 
@@ -316,15 +313,19 @@ def test_directory_gets_no_openings(
 @pytest.mark.parametrize(
     "line, report",
     [
-        ("opening D4", "all/plan has openings, which aren't played directly"),
-        ("opening D4 I5", "all/plan has a line that isn't known: opening D4 I5"),
-        ("opening", "all/plan has a line that isn't known: opening"),
+        ('openings = ["D4"]', "direct = true leaves out openings"),
+        ('openings = ["D4 I5"]', "openings has 'D4 I5', which isn't moves such as D4 Q16 pass"),
+        ('openings = [""]', "openings has '', which isn't moves such as D4 Q16 pass"),
     ],
     ids=["openings with --direct", "no vertex", "no move"],
 )
 def test_plan_that_was_changed(line: str, report: str, runner: Runner) -> None:
     words = [*engines(one="gtp_engine", two="gtp_engine --ko positional"), "--direct", *NINE]
     runner.tournament("plan", "all", *words)
-    with open(runner.folder / "all/plan", "a") as plan:
-        plan.write(f"{line}\n")
-    assert runner.tournament("list", "all") == (2, "", f"tournament: {report}\n")
+    place = runner.folder / "all/plan"
+    place.write_text(place.read_text().replace("seeds = 10", f"seeds = 10\n{line}"))
+    assert runner.tournament("list", "all") == (
+        2,
+        "",
+        f"tournament: line 6 of all/plan: {report}\n",
+    )

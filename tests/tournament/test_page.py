@@ -96,7 +96,7 @@ def test_plan_in_a_file(runner: Runner) -> None:
     assert done[::2] == (0, "")
     assert sorted(runner.games("night")) == ["1_a_b", "1_b_a"]
     plan = (runner.folder / "night/plan").read_text().splitlines()
-    assert plan[-4:] == ["move-limit 30", "start-limit 60", "seeds 1", "limit 7200"]
+    assert plan[3:7] == ["move-limit = 30", "start-limit = 60", "seeds = 1", "limit = 7200"]
 
 
 def test_run_that_survives_a_logout(runner: Runner) -> None:

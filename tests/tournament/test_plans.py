@@ -20,7 +20,6 @@ TO_ADD = (
     " Else take another directory.\n"
 )
 ELSE = "Take another folder, or write tournament play all alone, which goes on with what it has.\n"
-LIMITS = "start-limit 60\nseeds 4\nlimit 600\n"
 
 
 @pytest.fixture(scope="module")
@@ -37,8 +36,18 @@ def plan_of(runner: Runner, folder: str = "all") -> str:
 
 def is_untouched(planned: Runner) -> bool:
     """Tells whether the plan is as it was made, and nothing was played."""
-    options = "option --size\noption 5\noption --komi\noption 0.5\n"
-    plan = f"folder {planned.folder}\n{FIRST}{SECOND}{options}{LIMITS}"
+    plan = f"""\
+version = 1
+folder = "{planned.folder}"
+twogtp = ["--size", "5", "--komi", "0.5"]
+start-limit = 60
+seeds = 4
+limit = 600
+
+[engines]
+one = "{RANDOM} %s"
+two = "{RANDOM} 10%s"
+"""
     return plan_of(planned) == plan and planned.games() == {}
 
 
@@ -136,19 +145,19 @@ def test_more_seeds_than_in_the_plan_are_for_all_engines(runner: Runner) -> None
 
 
 def test_line_that_is_not_known_is_spelled(runner: Runner) -> None:
-    runner.tournament("plan", "all", *TWO)
-    with open(runner.folder / "all/plan", "ab") as plan:
-        plan.write(b"\x1b[2Jgo\tto\x00 \xc3\xa9\xff\xc2\x9bx\x7f\n")
+    (runner.folder / "all").mkdir()
+    unknown = b"\x1b[2Jgo\tto\x00 \xc3\xa9\xff\xc2\x9bx\x7f\n"
+    (runner.folder / "all/plan").write_bytes(b"seeds 4\n" + unknown)
     errors = runner.folder / "errors"
     with open(errors, "wb") as file:
         assert runner.tournament("list", "all", stderr=file).status == 2
     # control characters are, and bytes that are no text stay as they are
     line = b"\\x1b[2Jgo\tto\\x00 \xc3\xa9\xff\\x9bx\\x7f\n"
-    wanted = b"tournament: all/plan has a line that isn't known: " + line
+    wanted = b"tournament: line 2 of all/plan: it isn't known: " + line
     assert errors.read_bytes() == wanted
 
 
-# ---- plans that people write
+# ---- plans of earlier scripts
 
 BY_HAND = f"""\
 folder FOLDER
@@ -173,20 +182,47 @@ def write_plan(runner: Runner, text: str) -> str:
     return text
 
 
-def test_comments_stay_where_they_are(runner: Runner) -> None:
+REWRITTEN = f"""\
+version = 1
+folder = "FOLDER"
+# small, so that it is quick
+twogtp = ["--size", "2"]
+# at night more
+seeds = 2
+limit = 20
+start-limit = 9
+
+[engines]
+# the champion
+one = "{RANDOM} %s"
+
+two = "{RANDOM} 10%s"
+# the end
+"""
+
+
+def test_earlier_plan_stays_until_it_is_changed(runner: Runner) -> None:
     text = write_plan(runner, BY_HAND)
     done = runner.tournament("play", "all")
-    assert (done.status, done.errors, plan_of(runner)) == (0, "", f"{text}\n")
+    assert (done.status, done.errors, plan_of(runner)) == (0, "", text)
     assert runner.tournament("play", "all", "--seeds", "2", "--start-limit", "9").status == 0
-    seeds = "# at night more\nseeds"
-    more = text.replace(f"{seeds} 1\n", f"start-limit 9\n{seeds} 2\n")
-    assert plan_of(runner) == f"{more}\n"
+    assert plan_of(runner) == REWRITTEN.replace("FOLDER", str(runner.folder))
     assert runner.tally("all").output.startswith("4 of 4 games have a result")
 
 
+def test_plan_of_the_first_scripts_names_no_directory(runner: Runner) -> None:
+    write_plan(runner, BY_HAND.replace("folder FOLDER\n", ""))
+    assert runner.tournament("plan", "all", "--seeds", "2") == (0, "", "")
+    first = 'version = 1\nfolder = ""\n# small, so that it is quick\ntwogtp = ["--size", "2"]\n'
+    assert plan_of(runner).startswith(f"{first}direct = true\n")
+    done = runner.tournament("plan", "all", "--start-limit", "9")
+    why = "by earlier scripts, which had none, so it can't have --start-limit"
+    assert done == (2, "", f"tournament: all was begun {why}: take another directory\n")
+
+
 NO_FOLDER = (
-    "but none that says in which directory the engines start: write folder HERE, for example, as"
-    " its first line"
+    "but none says in which directory the engines start: write folder HERE, for example, as its"
+    " first line"
 )
 
 
@@ -197,7 +233,7 @@ NO_FOLDER = (
             pytest.param(
                 "folder FOLDER\n",
                 f"{added}\n",
-                f"all/plan has the line '{added}', {NO_FOLDER}",
+                f"line 1 of all/plan is '{added}', {NO_FOLDER}",
                 id=f"{added.split()[0]} without folder",
             )
             for added in ("move-limit 2", "start-limit 60", "opening A1 B2", "direct")
@@ -206,7 +242,7 @@ NO_FOLDER = (
             pytest.param(
                 "limit 20\n",
                 f"limit 20\ndirect\n{added}\n",
-                f"all/plan has the line '{added}', which the line direct leaves out",
+                f"line 13 of all/plan is '{added}', which the line direct leaves out",
                 id=f"{added.split()[0]} of engines that are started directly",
             )
             for added in ("move-limit 2", "start-limit 60")

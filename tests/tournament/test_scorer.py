@@ -64,7 +64,7 @@ def test_dead_stones(runner: Runner) -> None:
     assert "not scored" not in output
     score = runner.files("all/scores")["1_one_two"].splitlines()
     assert score[1:] == [f"scorer {command}", "by final_status_list", "dead C1 C2", "verdict B+4"]
-    assert f"scorer {command}\n" in (runner.folder / "all/plan").read_text()
+    assert f'scorer = "{command}"\n' in (runner.folder / "all/plan").read_text()
     assert runner.is_idle()
 
 

@@ -100,7 +100,7 @@ ERRORS = {
             "..{twogtp} doesn't play with the options '--size 6 --handicap 2': status 2\n",
         ),
         (
-            f"{PLAN} -- --handicap 2; sed -i 's/^option 2/option 1/' all/plan; "
+            f'{PLAN} -- --handicap 2; sed -i \'s/"2"]/"1"]/\' all/plan; '
             "tournament export all --sgf new",
             2,
             "the plan has --handicap '1': it is 0, or from 2 to 9\n",
@@ -108,12 +108,12 @@ ERRORS = {
     ],
     "tournament/tally": [
         (
-            f"{PLAN} -- --size 9; sed -i 's/^option 9/option 26/' all/plan; tally all",
+            f'{PLAN} -- --size 9; sed -i \'s/"9"]/"26"]/\' all/plan; tally all',
             2,
             "the plan has --size '26': it is from 1 to 25\n",
         ),
         (
-            f"{PLAN} -- --komi 7; sed -i 's/^option 7/option 7.1/' all/plan; tally all",
+            f'{PLAN} -- --komi 7; sed -i \'s/"7"]/"7.1"]/\' all/plan; tally all',
             2,
             "the plan has --komi '7.1': it is a multiple of 0.5, such as 6.5\n",
         ),

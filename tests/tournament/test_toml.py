@@ -19,7 +19,7 @@ command = "gtp_engine --policy random --seed %s"
 [engines.two]
 command = "gtp_engine"
 """
-OF_SMALL = "engine one gtp_engine --policy random --seed %s\nengine two gtp_engine\n"
+OF_SMALL = '[engines]\none = "gtp_engine --policy random --seed %s"\ntwo = "gtp_engine"\n'
 
 
 @pytest.fixture(autouse=True)
@@ -48,24 +48,22 @@ def plan_of(runner: Runner, folder: str) -> List[str]:
 
 EXAMPLE = (SCRIPTS / "example.toml").read_text()
 OF_EXAMPLE = """\
-folder FOLDER
-engine random gtp_engine --policy random --ko positional --seed %s
-engine first gtp_engine --policy first --ko positional
-engine random-2 env OMP_NUM_THREADS=1 gtp_engine --policy random --ko positional --seed 10%s
-option --size
-option 9
-option --komi
-option 7.5
-option --max-moves
-option 400
-move-limit 30
-start-limit 60
-seeds 2
-limit 600
+version = 1
+folder = "FOLDER"
+twogtp = ["--size", "9", "--komi", "7.5", "--max-moves", "400"]
+move-limit = 30
+start-limit = 60
+seeds = 2
+limit = 600
+
+[engines]
+random = "gtp_engine --policy random --ko positional --seed %s"
+first = "gtp_engine --policy first --ko positional"
+random-2 = "env OMP_NUM_THREADS=1 gtp_engine --policy random --ko positional --seed 10%s"
 """
 GNUGO = (
-    "engine gnugo /usr/games/gnugo --mode gtp --level 1 --seed %s --chinese-rules"
-    " --capture-all-dead --ko positional"
+    'gnugo = "/usr/games/gnugo --mode gtp --level 1 --seed %s --chinese-rules'
+    ' --capture-all-dead --ko positional"\n'
 )
 
 
@@ -85,10 +83,10 @@ def test_all_lines_of_the_example(runner: Runner) -> None:
     text = re.sub(r"^# (?=\w+ = |\[)", "", EXAMPLE, flags=re.MULTILINE)
     runner.write("whole.toml", text)
     assert runner.tournament("plan", "whole.toml")[::2] == (0, "")
-    wanted = OF_EXAMPLE.replace("option --size", f"{GNUGO}\noption --size")
-    wanted = wanted.replace("option --max", "option --handicap\noption 0\noption --max")
-    wanted = wanted.replace("move-limit 30", "gauntlet random\nmove-limit 30\nclock byoyomi 60 5 3")
-    wanted = wanted.replace("seeds 2", "opening C3 G7\nopening E5\nseeds 2")
+    wanted = OF_EXAMPLE.replace('"--max-moves"', '"--handicap", "0", "--max-moves"')
+    wanted = wanted.replace("twogtp", 'gauntlet = "random"\ntwogtp')
+    wanted = wanted.replace("limit = 30\n", 'limit = 30\nclock = "byoyomi 60 5 3"\n')
+    wanted = wanted.replace("seeds", 'openings = ["C3 G7", "E5"]\nseeds') + GNUGO
     assert plan_of(runner, "example") == wanted.splitlines()
 
 
@@ -106,7 +104,7 @@ def test_paths_are_seen_from_the_file(runner: Runner) -> None:
     runner.write("far/night.toml", f'folder = "../near"\nopenings = "lines"\n{text}')
     assert runner.tournament("play", "far/night.toml")[::2] == (0, "")
     assert runner.games("near") == runner.games("far/night")
-    assert plan_of(runner, "near")[0] == "folder FOLDER/far"
+    assert plan_of(runner, "near")[1] == 'folder = "FOLDER/far"'
 
 
 def test_directory_may_have_the_name_of_a_file(runner: Runner) -> None:
@@ -152,9 +150,10 @@ def test_changed_file_does_what_changed_options_do(runner: Runner) -> None:
 def test_options_of_the_command_line_count(runner: Runner) -> None:
     runner.write("a.toml", f"jobs = 1\nlimit = 30\nkomi = -3.5\nshow = true\n{SMALL}")
     assert runner.tournament("plan", "a.toml", "--seeds", "3") == (0, "", "")
-    options = "option --komi=-3.5\noption --show\noption --size\noption 2\n"
-    last = "start-limit 60\nseeds 3\nlimit 30"
-    assert plan_of(runner, "a") == f"folder FOLDER\n{OF_SMALL}{options}{last}".splitlines()
+    options = 'twogtp = ["--komi=-3.5", "--show", "--size", "2"]\n'
+    last = "start-limit = 60\nseeds = 3\nlimit = 30\n\n"
+    wanted = f'version = 1\nfolder = "FOLDER"\n{options}{last}{OF_SMALL}'
+    assert plan_of(runner, "a") == wanted.splitlines()
 
 
 @pytest.mark.parametrize(
@@ -268,6 +267,7 @@ def test_folder_of_a_file_needs_no_reader(python: str, runner: Runner) -> None:
         return done.output
 
     assert run("tournament", "list", "a") == "1_one_two\n1_two_one\n"
+    assert run("tournament", "plan", "a", "--seeds", "2") == ""
     assert run("tournament", "game", "a", "1_one_two").startswith("1_one_two: ")
-    assert run("tournament", "play", "a").endswith("2 of 2 games have a result\n")
-    assert run("tally", "a").startswith("2 of 2 games have a result")
+    assert run("tournament", "play", "a").endswith("4 of 4 games have a result\n")
+    assert run("tally", "a").startswith("4 of 4 games have a result")

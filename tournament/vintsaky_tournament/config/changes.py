@@ -7,7 +7,7 @@ from typing import NamedTuple
 
 from ..model import Plan
 from ..output import Mistake
-from .plan_file import ELSEWHERE, fixed_lines, parse, read_text
+from .plan_file import ELSEWHERE, parse, read_text
 from .setup import Setup
 
 SEEDS, LIMIT, START_LIMIT = 10, 600, "60"  # of a plan that doesn't say otherwise
@@ -181,6 +181,26 @@ def check_gauntlet(plan: Plan, asked: Plan, folder: str) -> None:
     if asked.gauntlet not in (None, plan.gauntlet):
         old = f"with --gauntlet {plan.gauntlet}" if plan.gauntlet else "without --gauntlet"
         raise Mistake(f"{folder} was begun {old}: {ELSEWHERE}")
+
+
+def fixed_lines(plan: Plan) -> list[str]:
+    """Returns a line for each thing that may not change, except that engines may be added."""
+    if any("\n" in option for option in plan.options):
+        raise Mistake("an option has more than one line")
+    engines = [f"engine {engine.name} {engine.command}" for engine in plan.engines.values()]
+    options = [f"option {option}" for option in plan.options]
+    pairing = [f"gauntlet {plan.gauntlet}"] if plan.gauntlet else []
+    return [*engines, *options, *pairing, *lines_of_start(plan)]
+
+
+def lines_of_start(plan: Plan) -> list[str]:
+    """Returns a line for each thing that says how engines are started."""
+    if plan.is_old():
+        return []
+    if plan.is_direct:
+        return ["direct"]
+    values = {"move-limit": plan.move_limit, "clock": plan.clock, "margin": plan.margin}
+    return [f"{key} {value}" for key, value in values.items() if value]
 
 
 def shown_lines(plan: Plan) -> list[str]:

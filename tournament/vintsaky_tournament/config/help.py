@@ -187,7 +187,8 @@ usage: tournament plan FOLDER --engine NAME=CMD --engine NAME=CMD ..
 
 Makes FOLDER and FOLDER/plan, plays nothing, and tries no engine. The arguments
 are those of tournament play. If FOLDER has a plan, you can give it more seeds,
-more engines after the others, or another limit.
+more engines after the others, or another limit. FOLDER/plan is TOML; comments
+that you write into it stay where it is changed.
 """,
             PLAN + DRY_RUN + OPTION,
             KEYS,

@@ -1,66 +1,139 @@
 """The file of a plan: how it is read and written.
 
-FOLDER/plan has a line each: `folder FOLDER`, in which engines start, `engine NAME COMMAND`, `option
-WORD`, `seeds N`, `limit SECONDS`. For `between` it has `start-limit SECONDS`, `move-limit SECONDS`,
-`clock CLOCK`, `margin SECONDS` and `opening MOVE ..`, or `direct` where that is left out. With
-`gauntlet NAME` this engine plays each other one, and no others play. A plan without `folder` is one
-of earlier scripts: its engines start in the working directory, and directly; it has none of the
-lines for `between`. `scorer COMMAND` names the engine that finds dead stones.
+FOLDER/plan is TOML, as simple_toml.py reads it, and begins with `version = 1`. `folder` is the
+directory in which engines start; it is empty in a plan of the first scripts, where that is the
+working directory. `twogtp` has options of twogtp, and `openings` the moves of each opening. The
+other keys are options of `tournament plan` without their dashes. `[engines]` has the command of
+each engine.
 
-A line that begins with # is a comment, which stays above the line that it is above of.
+All comments stay where a plan is changed. One that earlier_plan.py reads stays as it is until then.
 """
 from __future__ import annotations
 
 import os
 import re
+from typing import Callable, NamedTuple
 
 from ..model import Plan
 from ..output import Mistake
-from .values import clock, number, seconds
+from . import simple_toml, values
+from .simple_toml import Document, Entry, Number, Path, Value, text_of, value_of, written
 
-MOVE = "(?:[A-HJ-Z](?:[1-9]|1[0-9]|2[0-5])|pass)"
-OPENING = re.compile(f"{MOVE}(?: {MOVE})*")
 ELSEWHERE = "take another directory"
-LIMITS_OF_ANSWERS = ("move-limit", "start-limit", "clock", "margin")
-ONCE = ("folder", "gauntlet", "direct", *LIMITS_OF_ANSWERS, "scorer", "seeds", "limit")
-CHANGED = ("start-limit", "scorer", "seeds", "limit")  # of these lines the rest may change
-FOR_BETWEEN = ("direct", *LIMITS_OF_ANSWERS, "opening")
+VERSION, ENGINES = ("", "version"), ("engines", "")
+THIS_VERSION = Number("1")
+NEEDS_ANSWERS = ("move-limit", "start-limit", "clock", "margin", "openings")
+IS_TOML = re.compile(r"([ \t]*(#[^\n]*)?\r?\n)*[ \t]*version[ \t]*=")
+
+
+# ---- values
+
+
+class Field(NamedTuple):
+    """What a key sets: an attribute of a plan, and how its value is read."""
+
+    attribute: str
+    read: Callable[[str, Value], object]
+    is_number: bool = False  # though the attribute is a text
+
+
+def text(key: str, value: Value) -> str:
+    """Returns the text of a key."""
+    found = text_of(value)
+    if found is None:
+        raise Mistake(f"{key} needs a text in quotes, and not {written(value)}")
+    return found
+
+
+def name(key: str, value: Value) -> str:
+    """Returns the text of a key, which isn't empty."""
+    found = text(key, value)
+    if not found.strip(" "):
+        raise Mistake(f"{key} is empty")
+    return found
+
+
+def texts(key: str, value: Value) -> list[str]:
+    """Returns the texts of a key."""
+    if not isinstance(value, list):
+        raise Mistake(f"{key} needs a list of texts, and not {written(value)}")
+    return [text(key, each) for each in value]
+
+
+def openings(key: str, value: Value) -> list[str]:
+    """Returns the openings of a key."""
+    found = texts(key, value)
+    for moves in found:
+        if not values.is_opening(moves):
+            raise Mistake(f"{key} has '{moves}', which isn't moves such as D4 Q16 pass")
+    return found
+
+
+def flag(key: str, value: Value) -> bool:
+    """Returns whether a key is true."""
+    if not isinstance(value, bool):
+        raise Mistake(f"{key} needs true or false, and not {written(value)}")
+    return value
+
+
+def count(key: str, value: Value) -> int:
+    """Returns the number of a key."""
+    return values.number(key, written(value))
+
+
+def seconds(key: str, value: Value) -> str:
+    """Returns the seconds of a key."""
+    return values.seconds(key, written(value))
+
+
+def clock(key: str, value: Value) -> str:
+    """Returns the clock of a key."""
+    return values.clock(key, text(key, value))
+
+
+FIELDS = {
+    "folder": Field("folder", text),
+    "gauntlet": Field("gauntlet", name),
+    "twogtp": Field("options", texts),
+    "direct": Field("is_direct", flag),
+    "move-limit": Field("move_limit", seconds, is_number=True),
+    "clock": Field("clock", clock),
+    "margin": Field("margin", seconds, is_number=True),
+    "start-limit": Field("start_limit", seconds, is_number=True),
+    "scorer": Field("scorer", name),
+    "openings": Field("openings", openings),
+    "seeds": Field("seeds", count),
+    "limit": Field("limit", count),
+}
+
+
+def value_in(field: Field, plan: Plan) -> Value:
+    """Returns a plan's value of a field."""
+    found = getattr(plan, field.attribute)
+    if isinstance(found, bool):
+        return found
+    if isinstance(found, list):
+        return [value_of(each) for each in found]
+    return Number(found) if field.is_number or isinstance(found, int) else value_of(found or "")
+
+
+def values_of(plan: Plan) -> dict[Path, Value]:
+    """Returns the values that the file of a plan has."""
+    keys = {
+        key: value_in(field, plan)
+        for key, field in FIELDS.items()
+        if getattr(plan, field.attribute) or key == "folder"
+    }
+    engines = {engine.name: value_of(engine.command) for engine in plan.engines.values()}
+    return {
+        VERSION: THIS_VERSION,
+        **{("", key): value for key, value in keys.items()},
+        ENGINES: "",
+        **{("engines", name): value for name, value in engines.items()},
+    }
 
 
 # ---- reading
-
-
-def add_line(plan: Plan, line: str, place: str) -> None:
-    """Adds a line of the file in this place to a plan."""
-    kind, _, rest = line.partition(" ")
-    if kind == "engine" and " " in rest:
-        plan.add_engine(*rest.split(" ", 1))
-    elif kind == "gauntlet":
-        plan.gauntlet = rest
-    elif kind == "option" and line != kind:
-        plan.options.append(rest)
-    elif kind == "seeds":
-        plan.seeds = number(f"seeds of {place}", rest)
-    elif kind == "limit":
-        plan.limit = number(f"limit of {place}", rest)
-    elif kind == "folder" and rest:
-        plan.folder = rest
-    elif line == "direct":
-        plan.is_direct = True
-    elif kind == "start-limit":
-        plan.start_limit = seconds(f"start-limit of {place}", rest)
-    elif kind == "move-limit":
-        plan.move_limit = seconds(f"move-limit of {place}", rest)
-    elif kind == "clock":
-        plan.clock = clock(f"clock of {place}", rest)
-    elif kind == "margin":
-        plan.margin = seconds(f"margin of {place}", rest)
-    elif kind == "scorer" and rest.strip(" "):
-        plan.scorer = rest
-    elif kind == "opening" and OPENING.fullmatch(rest):
-        plan.openings.append(rest)
-    else:
-        raise Mistake(f"{place} has a line that isn't known: {line}")
 
 
 def read_text(place: str) -> bytes:
@@ -80,46 +153,79 @@ def read_text(place: str) -> bytes:
         raise Mistake(f"{place} can't be read: {error.strerror}") from None
 
 
-def is_comment(line: str) -> bool:
-    """Returns whether a line says nothing."""
-    return not line or line.startswith("#")
+def decoded(data: bytes) -> str:
+    """Returns the text of a file."""
+    return data.decode("utf-8", "surrogateescape")
 
 
-def kind_of(line: str) -> str:
-    """Returns the first word of a line."""
-    return line.partition(" ")[0]
-
-
-def check_lines(lines: list[str], place: str) -> None:
-    """Raises Mistake where a plan can't have one of these lines besides the others, which would
-    have no effect."""
-    kinds = [kind_of(line) for line in lines]
-    for kind in ONCE:
-        if kinds.count(kind) > 1:
-            raise Mistake(f"{place} has more than one line with {kind}")
-    for kind, line in zip(kinds, lines):
-        if kind in FOR_BETWEEN and "folder" not in kinds:
+def add_entry(plan: Plan, entry: Entry) -> None:
+    """Adds an entry of the file to a plan. Raises Mistake where it isn't understood."""
+    table, key = entry.path
+    if table == "engines":
+        if key:
+            plan.add_engine(key, text(key, entry.value))
+    elif table:
+        raise Mistake(f"there is no table [{table}]: the only one is [engines]")
+    elif entry.path == VERSION:
+        if entry.value != THIS_VERSION:
+            found = written(entry.value)
             raise Mistake(
-                f"{place} has the line '{line}', but none that says in which directory the engines "
-                f"start: write folder {os.getcwd()}, for example, as its first line"
+                f"this tournament reads version {THIS_VERSION} of a plan, and not {found}"
             )
-        if kind in LIMITS_OF_ANSWERS and "direct" in kinds:
-            raise Mistake(f"{place} has the line '{line}', which the line direct leaves out")
+    elif key in FIELDS:
+        setattr(plan, FIELDS[key].attribute, FIELDS[key].read(key, entry.value))
+    else:
+        import difflib  # which isn't needed elsewhere
+
+        (close,) = difflib.get_close_matches(key, list(FIELDS), 1, 0)
+        raise Mistake(f"there is no key {key}: is it {close}?")
 
 
-def parse(text: bytes, place: str) -> Plan:
+def plan_of(document: Document, place: str) -> Plan:
     """Returns the plan of a file in this place."""
-    plan, all_lines = Plan(), os.fsdecode(text).split("\n")
-    lines = [line for line in all_lines if not is_comment(line)]
-    for line in lines:
-        add_line(plan, line, place)
-    check_lines(lines, place)
+    plan = Plan()
+    lines = {entry.path: entry.line for entry in document.entries}
+    for entry in document.entries:
+        try:
+            add_entry(plan, entry)
+        except Mistake as mistake:
+            raise Mistake(f"line {entry.line} of {place}: {mistake.text}") from None
+    if plan.folder is None:
+        raise Mistake(f"{place} lacks folder, the directory in which the engines start")
+    for key in NEEDS_ANSWERS if plan.is_direct else ():
+        if ("", key) in lines:
+            raise Mistake(f"line {lines['', key]} of {place}: direct = true leaves out {key}")
+    if not plan.folder and not plan.is_direct:
+        raise Mistake(f"line {lines['', 'folder']} of {place}: folder is empty")
+    plan.folder = plan.folder or None
+    return plan
+
+
+def parse(data: bytes, place: str) -> Plan:
+    """Returns the plan of a file in this place."""
+    if IS_TOML.match(decoded(data)):
+        plan = plan_of(simple_toml.read(decoded(data), place), place)
+    else:
+        from . import earlier_plan  # which new plans don't need
+
+        check_beginning(data, place)
+        plan = earlier_plan.parse(data, place)
     if len(plan.engines) < 2 or not plan.seeds or not plan.limit:
         raise Mistake(f"{place} lacks engines, seeds or the limit")
-    plan.is_direct = plan.is_direct or plan.is_old()
     if plan.openings and plan.is_direct:
         raise Mistake(f"{place} has openings, which aren't played directly")
     return plan
+
+
+def check_beginning(data: bytes, place: str) -> None:
+    """Raises Mistake where the file of an earlier plan has the keys of one as it is now."""
+    for number, line in enumerate(decoded(data).split("\n"), 1):
+        key, equals, _ = line.partition("=")
+        if equals and key.strip() in (*FIELDS, VERSION[1]):
+            raise Mistake(
+                f"line {number} of {place} has a key and a value, so that the first line has to be "
+                f"version = {THIS_VERSION}"
+            )
 
 
 def read_plan(folder: str) -> Plan:
@@ -131,54 +237,40 @@ def read_plan(folder: str) -> Plan:
 # ---- writing
 
 
-def lines_of_start(plan: Plan) -> list[str]:
-    """Returns the lines of how engines are started, which may not change."""
-    if plan.is_old():
-        return []
-    if plan.is_direct:
-        return ["direct"]
-    values = {"move-limit": plan.move_limit, "clock": plan.clock, "margin": plan.margin}
-    return [f"{key} {value}" for key, value in values.items() if value]
+def document_of(data: bytes | None, plan: Plan, place: str) -> Document:
+    """Returns the document of a plan that has this file, as that would be written now."""
+    if data is None:
+        return Document([], [])
+    if IS_TOML.match(decoded(data)):
+        return simple_toml.read(decoded(data), place)
+    from . import earlier_plan  # which new plans don't need
+
+    above: dict[Path | None, list[str]] = {}
+    for path, comments in earlier_plan.comments_of(decoded(data)):
+        above.setdefault(path, []).extend(map(simple_toml.as_comment, comments))
+    entries = [
+        simple_toml.new_entry(path, value, above.get(path))
+        for path, value in values_of(plan).items()
+    ]
+    return Document(entries, above[None])
 
 
-def fixed_lines(plan: Plan) -> list[str]:
-    """Returns the lines that may not change, except that engines may be added."""
-    if any("\n" in option for option in plan.options):
-        raise Mistake("an option has more than one line")
-    engines = [f"engine {engine.name} {engine.command}" for engine in plan.engines.values()]
-    options = [f"option {option}" for option in plan.options]
-    pairing = [f"gauntlet {plan.gauntlet}"] if plan.gauntlet else []
-    return [*engines, *options, *pairing, *lines_of_start(plan)]
-
-
-def lines_of(plan: Plan) -> list[str]:
-    """Returns all lines, without comments."""
-    first = [] if plan.is_old() else [f"folder {plan.folder}"]
-    limits = [f"start-limit {plan.start_limit}"] if plan.start_limit else []
-    scorer = [f"scorer {plan.scorer}"] if plan.scorer else []
-    openings = [f"opening {moves}" for moves in plan.openings]
-    last = [f"seeds {plan.seeds}", f"limit {plan.limit}"]
-    return [*first, *fixed_lines(plan), *limits, *scorer, *openings, *last]
-
-
-def with_comments(lines: list[str], before: bytes) -> list[str]:
-    """Returns these lines with the comments of a file, each above the line that it was above of,
-    or at the end."""
-    above: dict[str, list[str]] = {}
-    waiting: list[str] = []
-    for line in os.fsdecode(before).removesuffix("\n").split("\n") if before else ():
-        waiting.append(line)
-        if not is_comment(line):
-            above.setdefault(name_of(line), []).extend(waiting[:-1])
-            waiting = []
-    found = [part for line in lines for part in (*above.pop(name_of(line), ()), line)]
-    return [*found, *(line for left in above.values() for line in left), *waiting]
-
-
-def name_of(line: str) -> str:
-    """Returns by what a line is known again in a plan that was changed."""
-    kind = kind_of(line)
-    return kind if kind in CHANGED else line
+def text_with(plan: Plan, before: bytes | None, place: str) -> bytes:
+    """Returns the file of a plan that had this one before: the same where it says the same."""
+    wanted = values_of(plan)
+    old = plan if before is None else parse(before, place)
+    if before is not None and values_of(old) == wanted:
+        return before
+    document, lines = document_of(before, old, place), []
+    for table in ("", "engines"):
+        entries = {entry.path: entry for entry in document.entries if entry.table == table}
+        for path, value in wanted.items():
+            if path[0] == table and path not in entries:
+                entries[path] = simple_toml.new_entry(path, value)
+            elif path[0] == table and entries[path].value != value:
+                entries[path] = simple_toml.changed(entries[path], value)
+        lines += [line for entry in entries.values() for line in (*entry.above, entry.text)]
+    return "".join(f"{line}\n" for line in [*lines, *document.below]).encode()
 
 
 def write_plan(plan: Plan, folder: str, before: bytes | None) -> None:
@@ -186,12 +278,11 @@ def write_plan(plan: Plan, folder: str, before: bytes | None) -> None:
     written under another name, and moved."""
     place = f"{folder}/plan"
     new_place = f"{place}.new.{os.getpid()}"
-    lines = with_comments(lines_of(plan), before or b"")
-    text = os.fsencode("".join(f"{line}\n" for line in lines))
+    data = text_with(plan, before, place)
     if os.path.exists(place):
         with open(place, "rb") as file:
             found = file.read()
-        if found == text:
+        if found == data:
             return
         if before not in (None, found):  # the trial of an engine takes its time
             raise Mistake(
@@ -199,7 +290,7 @@ def write_plan(plan: Plan, folder: str, before: bytes | None) -> None:
             )
     try:
         with open(new_place, "wb") as file:
-            file.write(text)
+            file.write(data)
             file.flush()
             os.fsync(file.fileno())
         if before is None:

@@ -6,6 +6,9 @@ import re
 from ..model import Engine
 from ..output import Mistake
 
+MOVE = "(?:[A-HJ-Z](?:[1-9]|1[0-9]|2[0-5])|pass)"
+OPENING = re.compile(f"{MOVE}(?: {MOVE})*")
+
 
 def number(option: str, text: str) -> int:
     """Returns the number of an option, from 1 up."""
@@ -15,10 +18,11 @@ def number(option: str, text: str) -> int:
 
 
 def seconds(option: str, text: str) -> str:
-    """Returns the seconds of an option, above 0 and as they are written."""
+    """Returns the seconds of an option, above 0 and as they are written, without needless zeros at
+    the beginning."""
     if not re.fullmatch(r"[0-9]{1,7}(\.[0-9]{1,6})?", text) or not float(text):
         raise Mistake(f"{option} needs seconds above 0, such as 60 or 0.5, and not '{text}'")
-    return text
+    return re.sub("^0+(?=[0-9])", "", text)
 
 
 def command(option: str, text: str) -> str:
@@ -38,3 +42,8 @@ def clock(option: str, text: str) -> str:
     except BadClock as bad:
         raise Mistake(f"{option} needs {bad}, and not '{text}'") from None
     return " ".join(text.split())
+
+
+def is_opening(text: str) -> bool:
+    """Returns whether a text has the moves of an opening, as a plan has them."""
+    return OPENING.fullmatch(text) is not None
