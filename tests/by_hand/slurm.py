@@ -12,7 +12,7 @@ import re
 import shutil
 import signal
 import socket
-from collections.abc import Iterator
+from collections.abc import Iterator, Sequence
 from pathlib import Path
 from subprocess import Popen
 
@@ -45,8 +45,8 @@ ReturnToService=2
 SlurmdTimeout=10
 KillWait=2
 SlurmdParameters=config_overrides
-NodeName=one NodeHostname={host} NodeAddr=127.0.0.1 Port={one} CPUs=2
-NodeName=two NodeHostname={host} NodeAddr=127.0.0.1 Port={two} CPUs=2
+NodeName=one NodeAddr=127.0.0.1 Port={one} CPUs=2
+NodeName=two NodeAddr=127.0.0.1 Port={two} CPUs=2
 PartitionName=all Nodes=ALL Default=YES State=UP
 """
 EACH = """\
@@ -110,14 +110,16 @@ class Cluster:
         for node in NODES:
             self.start_node(node)
 
-    def serve(self, name: str, *words: str) -> Popen[str]:
-        """Starts a service."""
+    def serve(self, name: str, *words: str, before: Sequence[str] = ()) -> Popen[str]:
+        """Starts a service, by the words before its command if there are some."""
+        command = [*before, f"/usr/sbin/{name}", *words]
         with open(self.folder / f"{name}.out", "ab") as log:
-            return self.runner.start(f"/usr/sbin/{name}", *words, stdout=log, stderr=log)
+            return self.runner.start(*command, stdout=log, stderr=log)
 
     def start_node(self, node: str) -> None:
-        """Starts a node."""
-        self.nodes[node] = self.serve("slurmd", "-D", "-N", node)
+        """Starts a node, which has a host name of its own."""
+        named = ["unshare", "-u", "bash", "-c", 'hostname "$0" && exec "$@"', node]
+        self.nodes[node] = self.serve("slurmd", "-D", before=named)
 
     def is_up(self) -> bool:
         """Waits until both nodes are up, and tells whether they are."""
@@ -253,6 +255,17 @@ def test_nothing_is_left_of_what_is_cancelled(
         cluster.submit("--time=10", array=array)
         assert cluster.is_idle()
     assert cluster.runner.games("far") == undisturbed, cluster.logs()
+
+
+def test_node_without_an_engine_is_left(cluster: Cluster, undisturbed: dict[str, str]) -> None:
+    """Slurm lets a task wait two minutes for that."""
+    cluster.runner.script("slow", f'[ "$SLURMD_NODENAME" = one ] || exit 7\n{SLOW}')
+    cluster.submit("--time=10")
+    assert cluster.is_idle()
+    assert cluster.runner.games("far") == undisturbed, cluster.logs()
+    moved = "can't start an engine on two, and goes to another node\n"
+    assert 1 <= cluster.logs().count(moved) <= TASKS
+    assert "on one" not in cluster.logs()
 
 
 def test_job_for_each_node(cluster: Cluster, undisturbed: dict[str, str]) -> None:

@@ -1,6 +1,7 @@
 """The script for Slurm, without Slurm: the games of each task, and the time that it has left."""
 from __future__ import annotations
 
+from subprocess import Popen
 from typing import Dict, List
 
 import pytest
@@ -10,10 +11,25 @@ from .runner import SCRIPTS, SMALL, TWO, Done, Runner, engines
 # A stand-in for squeue: of an array's own number it lists all tasks, and of a task's name that one,
 # each in a column of its width.
 SQUEUE = """\
+if [ "$4" = --format ]; then
+    echo "$(cat excluded)|$(cat comment)"
+    exit
+fi
 echo "$*" >> asked
 [ "{left}" != none ] || exit 1
 printf '%-20s\\n' {left}
 [[ $3 == *_* ]] || printf '%-20s\\n' {left}
+"""
+# A stand-in for scontrol: once a task is queued again, all processes of it get TERM.
+SCONTROL = """\
+[ ! -e again ] || kill $$
+[ "$1" != show ] || exec tr , '\\n' <<< "$3"
+echo "$*" >> given
+case $3 in
+    Comment=*) echo "${3#*=}" > comment ;;
+    ExcNodeList=*) echo "${3#*=}" > excluded ;;
+esac
+[ "$1" != requeue ] || { touch again && kill $PPID; }
 """
 NO_TIME = (
     "tournament: another game of 600 seconds doesn't fit into the time left;"
@@ -24,8 +40,8 @@ UNKNOWN_TIME = (
 )
 
 
-def task(runner: Runner, number: int, *words: object, left: str = "UNLIMITED") -> Done:
-    """Returns what comes of a task of the script, which has so much time left."""
+def start(runner: Runner, number: int, *words: object, left: str) -> Popen[str]:
+    """Starts a task of the script, which has so much time left."""
     (runner.folder / "tools").mkdir(exist_ok=True)
     runner.script("tools/squeue", SQUEUE.replace("{left}", left))
     variables = {
@@ -35,7 +51,12 @@ def task(runner: Runner, number: int, *words: object, left: str = "UNLIMITED") -
         "SLURM_JOB_ID": "77",
     }
     environment = {**runner.environment, **variables}
-    return runner.run(SCRIPTS / "tournament.sbatch", *words, env=environment)
+    return runner.start(SCRIPTS / "tournament.sbatch", *words, env=environment)
+
+
+def task(runner: Runner, number: int, *words: object, left: str = "UNLIMITED") -> Done:
+    """Returns what comes of a task of the script, which has so much time left."""
+    return runner.finish(start(runner, number, *words, left=left))
 
 
 def test_tasks_of_an_array(runner: Runner, small_results: Dict[str, str]) -> None:
@@ -114,3 +135,54 @@ def test_task_that_is_submitted_twice(runner: Runner) -> None:
     report = f"tournament: stopped: {line}; the same command goes on\n"
     assert runner.finish(run)[::2] == (143, report)
     assert runner.is_idle()
+
+
+def test_task_to_which_alone_a_signal_is_sent(runner: Runner) -> None:
+    runner.tournament("plan", "all", *engines(one="sleep 1000", two="cat"), "--seeds", "1")
+    runner.pass_trials()
+    run = start(runner, 1, "all", 1, left="UNLIMITED")
+    runner.wait_for("sleep")
+    run.terminate()
+    assert runner.finish(run).status == 143
+    assert runner.is_idle()
+
+
+def on_node(runner: Runner, node: str, nodes: str = "na nb nc nd") -> Done:
+    """Returns what comes of a task on a node without an engine, which is one of these nodes."""
+    if not (runner.folder / "tools").exists():
+        runner.tournament("plan", "all", *engines(one="./gone", two="gtp_engine"), "--seeds", "4")
+        (runner.folder / "tools").mkdir()
+        runner.script("tools/scontrol", SCONTROL)
+        runner.script("tools/sinfo", f"printf '%s\\n' {nodes}")
+        runner.write("given", "")
+    (runner.folder / "again").unlink(missing_ok=True)
+    runner.environment.update(SLURMD_NODENAME=node, SLURM_JOB_PARTITION="all")
+    return task(runner, 3, "all", 5)
+
+
+def test_task_leaves_a_node_without_an_engine(runner: Runner) -> None:
+    """Up to the third node, and besides what was excluded before, and the task's comment."""
+    runner.write("excluded", "nd\n")
+    runner.write("comment", "mine\n")
+    wanted = ""
+    for node, nodes in (("na", "na"), ("nb", "na,nb")):
+        assert on_node(runner, node).status == 69
+        wanted += (
+            f"update JobId=77_3 Comment=mine; no engine on {nodes}\n"
+            "requeue 77_3\n"
+            f"update JobId=77_3 ExcNodeList=nd,{nodes}\n"
+        )
+        assert (runner.folder / "given").read_text() == wanted
+    done = on_node(runner, "nc")
+    message = "tournament.sbatch: task 77_3 can't start an engine on na nb nc, and ends\n"
+    assert (done.status, done.errors.splitlines(True)[-1]) == (69, message)
+    assert (runner.folder / "given").read_text() == wanted
+
+
+def test_task_stays_on_the_last_node(runner: Runner) -> None:
+    runner.write("excluded", "nb\n")
+    runner.write("comment", "(null)\n")
+    done = on_node(runner, "na", nodes="na nb")
+    message = "can't start an engine on na, and ends, since no other node is left\n"
+    assert (done.status, done.errors.endswith(message)) == (69, True)
+    assert (runner.folder / "given").read_text() == ""
