@@ -133,7 +133,7 @@ MISTAKES = {
     "play x --opening=o": "play has no option --opening: is it --openings?",
     "play x ENGINES --openings=nowhere": "nowhere can't be read: No such file or directory",
     "play x ENGINES --openings=--no": "--no can't be read: No such file or directory",
-    "play x ENGINES --openings=all": "all can't be read: Is a directory",
+    "play x ENGINES --openings=all": "all has no file whose name ends with .sgf",
     "play all --direct": f"all was begun without --direct: {OTHER}",
     "play all --move-limit 5": f"all was begun with no --move-limit: {OTHER}",
     "play all --clock 'absolute 5'": f"all was begun with no --clock: {OTHER}",

@@ -51,7 +51,10 @@ PLAN = """\
                      D4 Q16 pass, and # begins a comment. Seed 1 has the first
                      opening, with both colours, seed 2 the second, and so on;
                      after the last opening comes the first again. You can't add
-                     openings later
+                     openings later. FILE.sgf has one in each game tree: its
+                     first variation, on a board of the plan's size, and without
+                     other stones that are set up than those of --handicap. A
+                     directory may have such files, read in order of their names
   --direct           saves 30 milliseconds a game: twogtp itself starts the
                      engines, so commands have no quotes. There are no limits of
                      an answer, no clocks and no openings, and no notes of the
