@@ -306,7 +306,7 @@ def test_options_that_a_plan_does_not_keep(
 # ---- help
 
 OF_PLAN = ["--engine", "--seeds", "--gauntlet", "--limit", "--move-limit", "--start-limit"]
-OF_PLAN += ["--clock", "--margin", "--scorer", "--openings", "--direct"]
+OF_PLAN += ["--clock", "--margin", "--scorer", "--openings", "--shuffle-openings", "--direct"]
 OF_TEST = ["--sprt", "--between", "--alpha", "--beta"]
 OF_PLAY = [*OF_PLAN, "--jobs", "--pin", "--again", "--task", "--time-left", *OF_TEST, "--dry-run"]
 OF_LOSSES = ["--abandoned"] * 3 + ["--late"]

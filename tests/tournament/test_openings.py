@@ -329,3 +329,44 @@ def test_plan_that_was_changed(line: str, report: str, runner: Runner) -> None:
         "",
         f"tournament: line 6 of all/plan: {report}\n",
     )
+
+
+# ---- their order
+
+MANY = [f"{column}{row}" for column in "ABCDEFGHJ" for row in range(1, 10)]
+
+
+def order_in(runner: Runner, folder: str, *options: str) -> List[str]:
+    """Returns the openings of a new plan that has MANY in an order that is asked for."""
+    runner.write("openings", "".join(f"{move}\n" for move in MANY))
+    words = ["--openings", "openings", *options, *NINE]
+    assert runner.tournament("plan", folder, *TWO, *words) == (0, "", "")
+    openings: List[str] = module("config.plan_file").read_plan(str(runner.folder / folder)).openings
+    return openings
+
+
+def test_order_of_openings(runner: Runner) -> None:
+    assert order_in(runner, "all") == MANY
+    one, two = (
+        order_in(runner, f"with-{number}", f"--shuffle-openings={number}") for number in "12"
+    )
+    assert sorted(one) == sorted(two) == sorted(MANY)
+    assert one != MANY and two != MANY and one != two
+    # a later command finds the same order, and so does a random number for each opening
+    assert order_in(runner, "with-1", "--shuffle-openings", "1") == one
+    chosen = random.Random(1)
+    numbers = {move: chosen.random() for move in MANY}
+    assert one == sorted(MANY, key=lambda move: numbers[move])
+
+
+def test_another_order_is_refused(runner: Runner) -> None:
+    order_in(runner, "all", "--shuffle-openings", "1")
+    said = (
+        f"tournament: {BEGUN} these openings in another order: give --shuffle-openings as it was"
+        " then, or leave it out if it wasn't given\n"
+    )
+    for options in ("", "--shuffle-openings 2"):
+        words = ["--openings", "openings", *options.split(), *NINE]
+        assert runner.tournament("plan", "all", *TWO, *words) == (2, "", said)
+    said = "tournament: --shuffle-openings needs the openings: give --openings, too\n"
+    assert runner.tournament("play", "all", "--shuffle-openings", "1") == (2, "", said)

@@ -80,13 +80,13 @@ def test_example_is_played(runner: Runner) -> None:
 
 def test_all_lines_of_the_example(runner: Runner) -> None:
     runner.write("openings.txt", "C3 G7  # two corners\nE5\n")
-    text = re.sub(r"^# (?=\w+ = |\[)", "", EXAMPLE, flags=re.MULTILINE)
+    text = re.sub(r"^# (?=[\w-]+ = |\[)", "", EXAMPLE, flags=re.MULTILINE)
     runner.write("whole.toml", text)
     assert runner.tournament("plan", "whole.toml")[::2] == (0, "")
     wanted = OF_EXAMPLE.replace('"--max-moves"', '"--handicap", "0", "--max-moves"')
     wanted = wanted.replace("twogtp", 'gauntlet = "random"\ntwogtp')
     wanted = wanted.replace("limit = 30\n", 'limit = 30\nclock = "byoyomi 60 5 3"\n')
-    wanted = wanted.replace("seeds", 'openings = ["C3 G7", "E5"]\nseeds') + GNUGO
+    wanted = wanted.replace("seeds", 'openings = ["E5", "C3 G7"]\nseeds') + GNUGO
     assert plan_of(runner, "example") == wanted.splitlines()
 
 

@@ -70,7 +70,7 @@ def with_file(arguments: Arguments) -> Arguments:
 def prepare(arguments: Arguments) -> Prepared:
     """Returns what is to be played by the folder and the arguments."""
     asked, is_given = asked_plan(arguments)
-    openings = arguments.last("--openings", read_openings) or []
+    openings = openings_of(arguments)
     asked.openings = [opening.text() for opening in openings]
     for name, read in (("--jobs", number), ("--task", share), ("--time-left", time_left)):
         arguments.last(name, read)
@@ -94,6 +94,19 @@ def write(prepared: Prepared) -> None:
     write_plan(folder.plan, folder.place, folder.before)
     if prepared.warning:
         output.report(prepared.warning)
+
+
+def openings_of(arguments: Arguments) -> list[Opening]:
+    """Returns the openings that the arguments name, in their order."""
+    openings = arguments.last("--openings", read_openings) or []
+    order = arguments.last("--shuffle-openings", number)
+    if order is None:
+        return openings
+    if not openings:
+        raise Mistake("--shuffle-openings needs the openings: give --openings, too")
+    from ..config.openings import shuffled  # which isn't needed elsewhere
+
+    return shuffled(openings, order)
 
 
 def read_openings(_: str, place: str) -> list[Opening]:

@@ -45,6 +45,7 @@ OF_PLAN: Options = {
     "--margin": Option("seconds", "--margin 0.1"),
     "--scorer": Option("CMD", "--scorer 'gnugo --mode gtp --chinese-rules'"),
     "--openings": Option("FILE", "--openings openings.txt"),
+    "--shuffle-openings": Option("a number", "--shuffle-openings 1"),
     "--direct": None,
     "--gauntlet": Option("an engine's NAME", "--gauntlet new"),
     **OF_PLAY,

@@ -172,6 +172,11 @@ def check_limits(plan: Plan, asked: Plan, folder: str) -> None:
             old = f"{option} {value}" if value else f"no {option}"
             raise Mistake(f"{folder} was begun with {old}: {ELSEWHERE}")
     if asked.openings and asked.openings != plan.openings:
+        if sorted(asked.openings) == sorted(plan.openings):
+            raise Mistake(
+                f"{folder} was begun with these openings in another order: give "
+                "--shuffle-openings as it was then, or leave it out if it wasn't given"
+            )
         which = "other" if plan.openings else "no"
         raise Mistake(f"{folder} was begun with {which} openings: {ELSEWHERE}")
 

@@ -55,6 +55,9 @@ PLAN = """\
                      first variation, on a board of the plan's size, and without
                      other stones that are set up than those of --handicap. A
                      directory may have such files, read in order of their names
+  --shuffle-openings N
+                     put the openings in an order that the number N chooses, the
+                     same each time [the order of FILE]
   --direct           saves 30 milliseconds a game: twogtp itself starts the
                      engines, so commands have no quotes. There are no limits of
                      an answer, no clocks and no openings, and no notes of the
@@ -156,8 +159,9 @@ usage: tournament play FOLDER --engine NAME=CMD --engine NAME=CMD ..
            [--gauntlet NAME]
            [--seeds N] [--limit SECONDS] [--move-limit SECONDS]
            [--start-limit SECONDS] [--clock CLOCK] [--margin SECONDS]
-           [--scorer CMD] [--openings FILE] [--direct] [--jobs N] [--pin]
-           [--again] [--task K/T] [--time-left TIME] [--dry-run]
+           [--scorer CMD] [--openings FILE] [--shuffle-openings N] [--direct]
+           [--jobs N] [--pin] [--again] [--task K/T] [--time-left TIME]
+           [--dry-run]
            [--sprt ELO0 ELO1 [--between NAME NAME] [--alpha N] [--beta N]]
            [-- OPTION ..]
        tournament play FOLDER ..            if FOLDER has a plan
@@ -184,8 +188,8 @@ usage: tournament plan FOLDER --engine NAME=CMD --engine NAME=CMD ..
            [--gauntlet NAME]
            [--seeds N] [--limit SECONDS] [--move-limit SECONDS]
            [--start-limit SECONDS] [--clock CLOCK] [--margin SECONDS]
-           [--scorer CMD] [--openings FILE] [--direct] [--dry-run]
-           [-- OPTION ..]
+           [--scorer CMD] [--openings FILE] [--shuffle-openings N] [--direct]
+           [--dry-run] [-- OPTION ..]
        tournament plan FILE.toml ..
 
 Makes FOLDER and FOLDER/plan, plays nothing, and tries no engine. The arguments

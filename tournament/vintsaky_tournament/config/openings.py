@@ -8,6 +8,7 @@ such files.
 from __future__ import annotations
 
 import os
+import random
 from typing import NamedTuple, Sequence
 
 from ..model import COLUMNS
@@ -109,6 +110,14 @@ def opening_of(place: str, words: Sequence[str]) -> Opening:
     if not moves:
         raise Mistake(f"{place} has no move")
     return Opening(place, first, moves)
+
+
+def shuffled(openings: Sequence[Opening], number: int) -> list[Opening]:
+    """Returns the openings in an order that this number chooses: the same one on each machine, and
+    in each version of Python, which keeps only what random() returns."""
+    generator = random.Random(number)
+    drawn = [(generator.random(), at) for at in range(len(openings))]
+    return [openings[at] for _, at in sorted(drawn)]
 
 
 def check(openings: Sequence[Opening], options: Sequence[str]) -> None:
