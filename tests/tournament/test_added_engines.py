@@ -105,7 +105,7 @@ def test_run_is_stopped_while_a_new_engine_is_tried(trying: Runner) -> None:
 
 
 def test_plan_is_changed_while_a_new_engine_is_tried(trying: Runner) -> None:
-    plan = state(trying)[0].replace("seeds 1", "seeds 5")
+    plan = state(trying)[0].replace("seeds = 1", "seeds = 5")
     run = trying.start("tournament", "play", "all", *THREE, *ONE_BY_ONE)
     trying.wait_for("engine")
     trying.tournament("plan", "all", "--seeds", "5")

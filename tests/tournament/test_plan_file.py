@@ -23,7 +23,7 @@ def parsed(text: str) -> Any:
 
 def file_of(plan: Any) -> str:
     """Returns the text of a new file of a plan."""
-    text: str = module("config.plan_file").text_with(plan, None, "plan").decode()
+    text: str = module("config.plan_writing").text_with(plan, None, "plan").decode()
     return text
 
 

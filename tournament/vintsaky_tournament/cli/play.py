@@ -8,7 +8,8 @@ from .. import output
 from ..cluster import share, time_left
 from ..config.arguments import OF_PLAY, Arguments, processors
 from ..config.changes import Folder, plan_for, warning_of
-from ..config.plan_file import read_plan, write_plan
+from ..config.plan_file import read_plan
+from ..config.plan_writing import write_plan
 from ..config.values import clock, command, number, seconds
 from ..model import Engine, Plan
 from ..output import Mistake

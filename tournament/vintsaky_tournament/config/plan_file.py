@@ -1,4 +1,4 @@
-"""The file of a plan: how it is read and written.
+"""The file of a plan: how it is read.
 
 FOLDER/plan is TOML, as simple_toml.py reads it, and begins with `version = 1`. `folder` is the
 directory in which engines start; it is empty in a plan of the first scripts, where that is the
@@ -6,24 +6,22 @@ working directory. `twogtp` has options of twogtp, and `openings` the moves of e
 other keys are options of `tournament plan` without their dashes. `[engines]` has the command of
 each engine.
 
-All comments stay where a plan is changed. One that earlier_plan.py reads stays as it is until then.
+earlier_plan.py reads plans of earlier scripts, and plan_writing.py writes plans.
 """
 from __future__ import annotations
 
 import os
-import re
 from typing import Callable, NamedTuple
 
 from ..model import Plan
 from ..output import Mistake
-from . import simple_toml, values
-from .simple_toml import Document, Entry, Number, Path, Value, text_of, value_of, written
+from . import values
+from .simple_toml import Document, Entry, Number, Value, read, text_of
 
 ELSEWHERE = "take another directory"
 VERSION, ENGINES = ("", "version"), ("engines", "")
 THIS_VERSION = Number("1")
 NEEDS_ANSWERS = ("move-limit", "start-limit", "clock", "margin", "openings")
-IS_TOML = re.compile(r"([ \t]*(#[^\n]*)?\r?\n)*[ \t]*version[ \t]*=")
 
 
 # ---- values
@@ -37,11 +35,18 @@ class Field(NamedTuple):
     is_number: bool = False  # though the attribute is a text
 
 
+def shown(value: Value) -> str:
+    """Returns a value as it is written, for a message."""
+    from .simple_toml_writing import written  # which isn't needed elsewhere
+
+    return written(value)
+
+
 def text(key: str, value: Value) -> str:
     """Returns the text of a key."""
     found = text_of(value)
     if found is None:
-        raise Mistake(f"{key} needs a text in quotes, and not {written(value)}")
+        raise Mistake(f"{key} needs a text in quotes, and not {shown(value)}")
     return found
 
 
@@ -56,7 +61,7 @@ def name(key: str, value: Value) -> str:
 def texts(key: str, value: Value) -> list[str]:
     """Returns the texts of a key."""
     if not isinstance(value, list):
-        raise Mistake(f"{key} needs a list of texts, and not {written(value)}")
+        raise Mistake(f"{key} needs a list of texts, and not {shown(value)}")
     return [text(key, each) for each in value]
 
 
@@ -72,18 +77,18 @@ def openings(key: str, value: Value) -> list[str]:
 def flag(key: str, value: Value) -> bool:
     """Returns whether a key is true."""
     if not isinstance(value, bool):
-        raise Mistake(f"{key} needs true or false, and not {written(value)}")
+        raise Mistake(f"{key} needs true or false, and not {shown(value)}")
     return value
 
 
 def count(key: str, value: Value) -> int:
     """Returns the number of a key."""
-    return values.number(key, written(value))
+    return values.number(key, value if isinstance(value, Number) else shown(value))
 
 
 def seconds(key: str, value: Value) -> str:
     """Returns the seconds of a key."""
-    return values.seconds(key, written(value))
+    return values.seconds(key, value if isinstance(value, Number) else shown(value))
 
 
 def clock(key: str, value: Value) -> str:
@@ -105,32 +110,6 @@ FIELDS = {
     "seeds": Field("seeds", count),
     "limit": Field("limit", count),
 }
-
-
-def value_in(field: Field, plan: Plan) -> Value:
-    """Returns a plan's value of a field."""
-    found = getattr(plan, field.attribute)
-    if isinstance(found, bool):
-        return found
-    if isinstance(found, list):
-        return [value_of(each) for each in found]
-    return Number(found) if field.is_number or isinstance(found, int) else value_of(found or "")
-
-
-def values_of(plan: Plan) -> dict[Path, Value]:
-    """Returns the values that the file of a plan has."""
-    keys = {
-        key: value_in(field, plan)
-        for key, field in FIELDS.items()
-        if getattr(plan, field.attribute) or key == "folder"
-    }
-    engines = {engine.name: value_of(engine.command) for engine in plan.engines.values()}
-    return {
-        VERSION: THIS_VERSION,
-        **{("", key): value for key, value in keys.items()},
-        ENGINES: "",
-        **{("engines", name): value for name, value in engines.items()},
-    }
 
 
 # ---- reading
@@ -158,6 +137,13 @@ def decoded(data: bytes) -> str:
     return data.decode("utf-8", "surrogateescape")
 
 
+def is_toml(text: str) -> bool:
+    """Returns whether the first line, if it isn't a comment, has the version."""
+    lines = (line.strip() for line in text.split("\n"))
+    first = next((line for line in lines if line and not line.startswith("#")), "")
+    return first.partition("=")[0].rstrip() == VERSION[1]
+
+
 def add_entry(plan: Plan, entry: Entry) -> None:
     """Adds an entry of the file to a plan. Raises Mistake where it isn't understood."""
     table, key = entry.path
@@ -168,7 +154,7 @@ def add_entry(plan: Plan, entry: Entry) -> None:
         raise Mistake(f"there is no table [{table}]: the only one is [engines]")
     elif entry.path == VERSION:
         if entry.value != THIS_VERSION:
-            found = written(entry.value)
+            found = shown(entry.value)
             raise Mistake(
                 f"this tournament reads version {THIS_VERSION} of a plan, and not {found}"
             )
@@ -203,8 +189,8 @@ def plan_of(document: Document, place: str) -> Plan:
 
 def parse(data: bytes, place: str) -> Plan:
     """Returns the plan of a file in this place."""
-    if IS_TOML.match(decoded(data)):
-        plan = plan_of(simple_toml.read(decoded(data), place), place)
+    if is_toml(decoded(data)):
+        plan = plan_of(read(decoded(data), place), place)
     else:
         from . import earlier_plan  # which new plans don't need
 
@@ -232,90 +218,3 @@ def read_plan(folder: str) -> Plan:
     """Returns the plan of a folder."""
     place = f"{folder}/plan"
     return parse(read_text(place), place)
-
-
-# ---- writing
-
-
-def document_of(data: bytes | None, plan: Plan, place: str) -> Document:
-    """Returns the document of a plan that has this file, as that would be written now."""
-    if data is None:
-        return Document([], [])
-    if IS_TOML.match(decoded(data)):
-        return simple_toml.read(decoded(data), place)
-    from . import earlier_plan  # which new plans don't need
-
-    above: dict[Path | None, list[str]] = {}
-    for path, comments in earlier_plan.comments_of(decoded(data)):
-        above.setdefault(path, []).extend(map(simple_toml.as_comment, comments))
-    entries = [
-        simple_toml.new_entry(path, value, above.get(path))
-        for path, value in values_of(plan).items()
-    ]
-    return Document(entries, above[None])
-
-
-def text_with(plan: Plan, before: bytes | None, place: str) -> bytes:
-    """Returns the file of a plan that had this one before: the same where it says the same."""
-    wanted = values_of(plan)
-    old = plan if before is None else parse(before, place)
-    if before is not None and values_of(old) == wanted:
-        return before
-    document, lines = document_of(before, old, place), []
-    for table in ("", "engines"):
-        entries = {entry.path: entry for entry in document.entries if entry.table == table}
-        for path, value in wanted.items():
-            if path[0] == table and path not in entries:
-                entries[path] = simple_toml.new_entry(path, value)
-            elif path[0] == table and entries[path].value != value:
-                entries[path] = simple_toml.changed(entries[path], value)
-        lines += [line for entry in entries.values() for line in (*entry.above, entry.text)]
-    return "".join(f"{line}\n" for line in [*lines, *document.below]).encode()
-
-
-def write_plan(plan: Plan, folder: str, before: bytes | None) -> None:
-    """Writes the plan of a folder, which had this file of a plan before, if it had one. The plan is
-    written under another name, and moved."""
-    place = f"{folder}/plan"
-    new_place = f"{place}.new.{os.getpid()}"
-    data = text_with(plan, before, place)
-    if os.path.exists(place):
-        with open(place, "rb") as file:
-            found = file.read()
-        if found == data:
-            return
-        if before not in (None, found):  # the trial of an engine takes its time
-            raise Mistake(
-                f"{place} was changed by another run at the same time: give the command again"
-            )
-    try:
-        with open(new_place, "wb") as file:
-            file.write(data)
-            file.flush()
-            os.fsync(file.fileno())
-        if before is None:
-            put_new(new_place, place)
-        else:
-            os.replace(new_place, place)
-    except OSError as error:
-        if os.path.exists(new_place):
-            os.unlink(new_place)
-        raise OSError(error.errno, f"it can't be written: {error.strerror}", place) from None
-
-
-def put_new(new_place: str, place: str) -> None:
-    """Moves a new plan to its place. Of two runs that begin a folder at once, one makes it."""
-    try:
-        os.link(new_place, place)
-    except FileExistsError:
-        with open(new_place, "rb") as mine, open(place, "rb") as other:
-            is_same = mine.read() == other.read()
-        os.unlink(new_place)
-        if not is_same:
-            raise Mistake(
-                f"{place} was made by another run at the same time: {ELSEWHERE}"
-            ) from None
-    except OSError:  # a file system without links
-        os.replace(new_place, place)
-    else:
-        os.unlink(new_place)
