@@ -10,7 +10,7 @@ from ..config.arguments import OF_PLAY, Arguments, processors
 from ..config.changes import Folder, plan_for, warning_of
 from ..config.plan_file import read_plan
 from ..config.plan_writing import write_plan
-from ..config.values import clock, command, number, seconds
+from ..config.values import clock, command, hook, number, seconds
 from ..model import Engine, Plan
 from ..output import Mistake
 from ..play.programs import find, find_twogtp, try_options
@@ -119,6 +119,7 @@ def read_openings(_: str, place: str) -> list[Opening]:
 
 def do_play(arguments: Arguments) -> int:
     """Plays a tournament, and returns the status."""
+    from ..play.hooks import ON_END, ON_FAILURE, Hooks
     from ..play.run import Run
     from ..play.scheduler import Play
 
@@ -128,6 +129,7 @@ def do_play(arguments: Arguments) -> int:
     check_scorer(plan)
     task, left = arguments.last("--task", share), arguments.last("--time-left", time_left)
     jobs = arguments.last("--jobs", number) or processors()
+    commands = {name: arguments.last(name, hook) for name in (ON_END, ON_FAILURE)}
     if folder.surplus:
         output.report(folder.surplus)
     asked = asked_of(arguments, plan)
@@ -141,12 +143,14 @@ def do_play(arguments: Arguments) -> int:
     run = Run(plan, folder.place, prepared.twogtp)
     if arguments.has("--pin"):
         run.pin(jobs)
-    play = Play(run, plan, jobs, task, left)
+    hooks = Hooks(run, plan, commands, arguments.directory or os.getcwd(), task, asked)
+    play = Play(run, plan, jobs, task, left, hooks)
     status = play.try_added(folder)
-    if status is not None:
-        return status
-    write(prepared)
-    return play.all(arguments.has("--again"), asked)
+    if status is None:
+        write(prepared)
+        status = play.all(arguments.has("--again"), asked)
+    hooks.end(status)
+    return status
 
 
 def dry_run(prepared: Prepared, task: Share | None, again: bool) -> int:

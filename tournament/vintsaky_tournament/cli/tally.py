@@ -8,9 +8,7 @@ from .. import VERSION, output
 from ..config.arguments import Arguments
 from ..config.plan_file import read_plan
 from ..output import Mistake
-from ..stats.sprt import Test
 from ..stats.summary import Counts, Summary
-from ..store.left_out import Decided
 from .losses import rules_of
 from .sprt import asked_of
 
@@ -50,10 +48,7 @@ def main(words: Sequence[str]) -> int:
     asked, leave_out = asked_of(arguments, plan), arguments.last("--no-winner", is_left_out)
     by = arguments.last("--by", part_name)
     counts = Counts(plan, folder, rules_of(arguments, plan), bool(leave_out))
-    test: Test | None = None
-    if asked:
-        left_out = Decided(folder, asked.text()).games(counts.games)
-        test = Test(counts.pairs, asked, counts.has_failed, left_out)
+    test = counts.test(asked) if asked else None
     if arguments.has("--json"):
         from ..report.as_json import json_of
 

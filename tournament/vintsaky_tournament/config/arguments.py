@@ -26,12 +26,15 @@ OF_TEST: Options = {
     "--beta": Option("a number", "--beta 0.05"),
 }
 QUOTED = "--engine 'one=gtp_engine --policy random --seed %s'"
+MAIL = "'mail -s night me'"
 OF_PLAY: Options = {  # which no plan keeps
     "--jobs": Option("a number", "--jobs 4"),
     "--pin": None,
     "--again": None,
     "--task": Option("K/T", "--task 3/100"),
     "--time-left": Option("a time", "--time-left 30:00"),
+    "--on-end": Option("CMD", f"--on-end {MAIL}"),
+    "--on-failure": Option("CMD", f"--on-failure {MAIL}"),
     **OF_TEST,
     "--dry-run": None,
 }

@@ -104,6 +104,15 @@ MORE_OF_PLAY = (
   --task K/T         play only the games K, K+T, K+2T .. of the plan
   --time-left TIME   begin no game that doesn't fit into this time, written as
                      squeue prints it: 1-00:30:00 or 30:00; or in seconds, as 90
+  --on-end CMD       run CMD by sh when the run ends, however it ends, and wait
+                     60 seconds for it. It reads the JSON of tally --json, which
+                     also has: event ("end"), folder, task, status (that of the
+                     run), and failed: each game of this run without a result or
+                     with an unfit or abandoned side, and each engine that can't
+                     be started, with the reason (100 at most). What CMD writes
+                     goes to standard error, and its end changes nothing
+  --on-failure CMD   the same at the first of these failures in the run, while
+                     games go on; event is "failure" then
   --sprt ELO0 ELO1   end the run once a sequential test is over: whether the
                      plan's first engine is stronger than its second by ELO0 or
                      by ELO1 Elo. Pairs count in the order of seeds; one is left
@@ -161,7 +170,7 @@ usage: tournament play FOLDER --engine NAME=CMD --engine NAME=CMD ..
            [--start-limit SECONDS] [--clock CLOCK] [--margin SECONDS]
            [--scorer CMD] [--openings FILE] [--shuffle-openings N] [--direct]
            [--jobs N] [--pin] [--again] [--task K/T] [--time-left TIME]
-           [--dry-run]
+           [--dry-run] [--on-end CMD] [--on-failure CMD]
            [--sprt ELO0 ELO1 [--between NAME NAME] [--alpha N] [--beta N]]
            [-- OPTION ..]
        tournament play FOLDER ..            if FOLDER has a plan

@@ -33,6 +33,13 @@ def command(option: str, text: str) -> str:
     return text
 
 
+def hook(option: str, text: str) -> str:
+    """Returns the command of an option, which a shell reads."""
+    if not text.strip() or "\0" in text:
+        raise Mistake(f"{option} needs a command, such as {option} 'mail -s night me'")
+    return text
+
+
 def clock(option: str, text: str) -> str:
     """Returns the clock of an option, as it is written, with one space between its parts."""
     from ..relay.clock import BadClock, read_clock  # which few plans need

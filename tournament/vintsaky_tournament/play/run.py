@@ -45,6 +45,7 @@ class Run:
         self.files = EngineFiles(self.match, self.at)
         self.playing: dict[int, Playing] = {}  # by the process of each game
         self.tree = process_tree.ProcessTree()
+        self.others: set[int] = set()  # processes besides those of games, which run on
         self.stopped: int | None = None  # the signal that stopped it
         self.pinned: list[list[int]] = []  # the processors of each slot; all have all if it's empty
         self.full_in_a_row = 0  # games that found the disk full
@@ -222,10 +223,19 @@ class Run:
 
     def wait(self, seconds: float | None = None) -> list[Finished]:
         """Waits for a signal, and returns each game that has ended since."""
+        self.has_others()
         if not self.tree.ended:
             self.wait_for_signal(seconds)
         ended = [process for process in self.playing if process in self.tree.ended]
         return [self.finish(process) for process in ended]
+
+    def has_others(self) -> bool:
+        """Returns whether there are processes besides those of games."""
+        self.tree.reap()
+        for process in self.others.intersection(self.tree.ended):
+            self.others.remove(process)
+            del self.tree.ended[process]
+        return bool(self.others)
 
     def finish(self, process: int) -> Finished:
         """Returns the game of a process that has ended.
@@ -238,7 +248,7 @@ class Run:
         outcome = Outcome(status) if 0 <= status < len(Outcome) else Outcome.BROKEN
         is_broken = outcome is Outcome.BROKEN
         if is_broken:
-            self.tree.end(self.playing)
+            self.tree.end({*self.playing, *self.others})
         result = self.whole(game.places, game.old)
         self.files.end(game.name, result)
         if is_broken or outcome is Outcome.STOPPED:

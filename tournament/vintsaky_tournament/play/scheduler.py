@@ -16,6 +16,7 @@ from ..output import NoStart
 from ..store import results
 from ..store.layout import InTheWay, Places, Taken, clear_running, make_folders
 from .game import no_result
+from .hooks import Hooks
 from .known import NO_START, KnownEngines
 from .progress import Progress
 from .run import Run
@@ -42,6 +43,7 @@ class Play:
         jobs: int,
         share: Share | None = None,
         seconds: float | None = None,
+        hooks: Hooks | None = None,
     ) -> None:
         self.run, self.plan, self.jobs, self.share = run, plan, jobs, share
         self.until = None if seconds is None else time.monotonic() + seconds
@@ -54,6 +56,7 @@ class Play:
         # of a game that is played again: the inode of its old result, until there is a new one
         self.old: dict[int, int] = {}
         self.known = KnownEngines(run, plan)
+        self.hooks = hooks or Hooks(run, plan, {}, "")
         self.has_played = False  # whether a game was begun
         self.not_started: Counter[str] = Counter()  # in how many games in a row an engine wasn't
         # whether these were too many, or an engine can't be started at all
@@ -98,8 +101,12 @@ class Play:
         if self.counted_games:
             self.counted_games.add(game, result)
 
-    def add_failed(self, game: int) -> None:
-        """Counts a game that has no result after its try."""
+    def add_failed(self, game: int, reason: str = "") -> None:
+        """Counts a game that has no result after its try. The reason is that of its log, unless it
+        is given."""
+        name = self.games.name(game)
+        reason = reason or results.logged_reason(Places(self.run.folder, name).log)
+        self.hooks.add_failures({name: reason})
         self.progress.failed += 1
         if self.counted_games:
             self.counted_games.add_failed(game)
@@ -172,7 +179,7 @@ class Play:
         except Taken:
             self.later.append(game)
         except InTheWay as problem:
-            self.add_failed(game)
+            self.add_failed(game, problem.text)
             output.report(f"{name}: {no_result(game in self.old)}: {problem.text}")
         except OSError as error:
             if error.errno in output.TOO_MANY_GAMES and self.run.playing:
@@ -194,6 +201,8 @@ class Play:
             if result:
                 self.add_result(game, result)
                 self.print(f"{self.count} of {self.total}: {name}: {result.line}")
+                if self.states[game] == State.LOST:
+                    self.hooks.add_failures({name: result.verdict})
                 for engine in engines:
                     self.not_started[engine] = 0
                 continue
@@ -263,7 +272,7 @@ class Play:
                 until = time.monotonic() + AGAIN
             elif not self.is_over():
                 self.run.wait(PAUSE)
-        self.run.tree.end()
+        self.run.tree.end(self.run.others)
         self.count_again()
 
     def all(self, again: bool, asked: TestRequest | None = None) -> int:
@@ -292,7 +301,10 @@ class Play:
         except NoStart as problem:
             self.is_unable = True
             output.report(problem.text)
-            return problem.engines
+            host, engines = os.uname().nodename, problem.engines
+            reasons = {engine: f"it can't be started on {host}" for engine in engines}
+            self.hooks.add_failures(reasons or {host: problem.text})
+            return engines
         except OSError as error:
             self.run.end_without_space(error)
         return ()

@@ -19,6 +19,11 @@ ACCEPTED = {None: "go on", 0: "elo0", 1: "elo1"}
 
 def json_of(summary: Summary, test: Test | None = None) -> str:
     """Returns the tally, and a sequential test, as a text."""
+    return f"{json.dumps(facts_of(summary, test))}\n"
+
+
+def facts_of(summary: Summary, test: Test | None = None) -> dict[str, Any]:
+    """Returns what the tally has, and a sequential test."""
     counts = summary.counts
     name = counts.games.name
     blames: dict[str, dict[str, int]] = {engine: {} for engine in summary.rows}
@@ -47,7 +52,7 @@ def json_of(summary: Summary, test: Test | None = None) -> str:
         found["scorer"] = of_scored(counts.scored)
     if test:
         found["sprt"] = of_test(test)
-    return f"{json.dumps(found)}\n"
+    return found
 
 
 def of_scored(scored: Scored) -> dict[str, Any]:

@@ -12,11 +12,11 @@ from .endings import Endings, Rule, Rules
 from .pairs import PairCounts, Pairs
 
 if TYPE_CHECKING:
+    from .sprt import Test, TestRequest
     from .standings import Standings
 
 OTHERS_TO_LOOK_INTO = (Way.UNFIT, Way.ABANDONED, Way.LATE, Way.TIME)
 LENGTH = 50  # moves of a step, by which games are counted
-PREFIX = "tournament: "  # of the line of a log that says why a game has no result
 
 
 class Counts:
@@ -96,8 +96,15 @@ class Counts:
 
     def reason(self, game: int) -> str:
         """Returns why a game that has a log has no result; an empty text where nobody knows."""
-        line = results.last_line(f"{self.folder}/logs/{self.games.name(game)}")
-        return line[len(PREFIX) :] if line.startswith(PREFIX) else ""
+        return results.logged_reason(f"{self.folder}/logs/{self.games.name(game)}")
+
+    def test(self, asked: TestRequest) -> Test:
+        """Returns the sequential test that is asked for."""
+        from ..store.left_out import Decided  # which isn't needed elsewhere
+        from .sprt import Test
+
+        left_out = Decided(self.folder, asked.text()).games(self.games)
+        return Test(self.pairs, asked, self.has_failed, left_out)
 
     def damaged(self) -> int:
         """Returns the number of damaged files."""

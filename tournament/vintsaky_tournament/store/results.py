@@ -30,6 +30,7 @@ LINE = "game 1: (([BWalu0][^\n]*) moves ([0-9]{1,4}) restarts ([0-9]{1,4}) ([0-9
 MOST_REPORTED = 10  # files that can't be read, each with a message of its own
 END = 65536  # bytes at the end of a file in which its last lines are
 QUOTED, CUT = 200, " .."  # the bytes of a line that a message has, and the end of a longer one
+PREFIX = "tournament: "  # of the line of a log that says why a game has no result
 CHUNK = 16384  # bytes, which a result seldom has
 HAVE_RESULT = (State.WHOLE, State.LOST)
 
@@ -230,6 +231,12 @@ def last_line(place: str) -> str:
     """Returns the last line of a file; an empty one where there is none."""
     lines = last_lines(place)
     return os.fsdecode(lines[-1]) if lines else ""
+
+
+def logged_reason(log: str) -> str:
+    """Returns why a game that has this log has no result; an empty text where nobody knows."""
+    line = last_line(log)
+    return line[len(PREFIX) :] if line.startswith(PREFIX) else ""
 
 
 def quote(line: bytes) -> str:
