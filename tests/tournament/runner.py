@@ -196,6 +196,7 @@ class Runner:
             for name, default in (("--size", "19"), ("--komi", "6.5"))
         )
         board = f"size {size} komi {komi} handicap 0{' directly' if plan.is_direct else ''}"
+        board += f" clock {plan.clock}" if plan.clock else ""
         place = self.folder / folder / "tried" / os.uname().nodename
         place.mkdir(parents=True, exist_ok=True)
         commands = [plan.engines[name].command for name in names or plan.engines]

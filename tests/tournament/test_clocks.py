@@ -88,6 +88,47 @@ ONE_MOVE = f"{BEGIN}, 4 genmove b, 5 quit"
 # ---- what an engine is told
 
 
+def test_trial_sends_what_a_game_sends(runner: Runner) -> None:
+    runner.script("engine", ENGINE)
+    both = engines(one=f"./engine {ALL} A1 B1 C1", two="gtp_engine")
+    options = ["--clock=canadian 600 300 25", "--seeds=1", "--", "--size=5", "--max-moves=1"]
+    runner.tournament("plan", "all", *both, *options)
+    assert runner.tournament("game", "all", "1_one_two")[::2] == (0, "")
+    setup = ["1 boardsize 5", "2 komi 6.5", "list_commands", "3 clear_board"]
+    told = ["time_settings 600 300 25", "time_left b 600 0", "4 genmove b"]
+    begin = [*setup, *told]
+    assert heard(runner)[: 2 * len(begin) + 3] == [*begin, "5 name", "6 version", "quit", *begin]
+
+
+# it has time_settings, and does this where it is told of a clock
+AT_SETTINGS = """\
+while read -r number _; do
+    case $number in
+        list_commands) echo '= time_settings' ;;
+        time_settings) {} ;;
+        *) echo "=$number A1" ;;
+    esac
+    echo
+done
+"""
+
+
+@pytest.mark.parametrize(
+    "does, report",
+    [
+        ("exit 3", "it ended at 'time_settings 600 0 0': exit status 3"),
+        ("echo '? no'", "it refuses 'time_settings 600 0 0': '? no'"),
+        ("exec sleep 1000", "it doesn't answer 'time_settings 600 0 0' in 1 seconds"),
+    ],
+)
+def test_trial_finds_an_engine_that_takes_no_clock(does: str, report: str, runner: Runner) -> None:
+    runner.script("engine", AT_SETTINGS.format(does))
+    both = engines(one="./engine", two="gtp_engine")
+    options = ["--clock=absolute 600", "--start-limit=1", "--seeds=1"]
+    runner.tournament("plan", "all", *both, *options, "--", "--size=5", "--max-moves=1")
+    assert runner.tournament("game", "all", "1_one_two").errors == f"tournament: one: {report}\n"
+
+
 @pytest.mark.parametrize(
     "clock, known, told",
     [

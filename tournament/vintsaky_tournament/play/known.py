@@ -27,7 +27,7 @@ if TYPE_CHECKING:
 
 NO_START = 69  # the status where an engine can't be started
 PAUSE = 0.2  # seconds between two looks whether another process has ended its trials
-MOVE_LIMIT = 600  # seconds of a move where games have clocks: a trial has none
+LONGEST_MOVE = 600  # seconds, where a clock allows more
 SOON = 10  # seconds after which it is said what is waited for
 TO_SPACES = {ord(character): " " for character in "\t\n\0"}
 
@@ -60,6 +60,18 @@ class Limits(NamedTuple):
     end: float
 
 
+def limits_of(plan: Plan) -> Limits:
+    """Returns the limits of a trial: those of a game."""
+    limit = float(plan.limit or 0)
+    answer, move = float(plan.start_limit or limit), float(plan.move_limit or limit)
+    if plan.clock:
+        from ..relay.clock import read_clock  # which few plans need
+
+        allowed = read_clock(plan.clock).seconds_left() + float(plan.margin or 0)
+        move = min(move, allowed, LONGEST_MOVE)
+    return Limits(answer, move, min(answer, limit))
+
+
 class KnownEngines:
     """The trials in a folder, on this machine, as a run knows them."""
 
@@ -70,21 +82,20 @@ class KnownEngines:
         self.done: set[str] = set()
         self.again: set[str] = set()  # engines that are tried whatever is known of them
         self.began = time.time()
-        limit = plan.limit or 0
-        answer = float(plan.start_limit or limit)
-        move = float(plan.move_limit or (MOVE_LIMIT if plan.clock else limit))
-        self.limits = Limits(answer, move, min(answer, float(limit)))
+        self.limits = limits_of(plan)
         self.name = f"tried/{os.uname().nodename}"
         self.place = f"{run.at}/{self.name}"
 
     # ---- what is known
 
     def key(self, name: str) -> str:
-        """Returns what is tried of an engine: its command, where it starts, and the board."""
+        """Returns what is tried of an engine: its command, where it starts, the board, and the
+        clock."""
         setup, command = self.setup, self.plan.engines[name].command
         how = " directly" if self.plan.is_direct else ""
+        clock = f" clock {self.plan.clock}" if self.plan.clock else ""
         board = f"size {setup.size} komi {setup.komi} handicap {setup.handicap}"
-        return f"{command}\t{self.match.folder}\t{board}{how}"
+        return f"{command}\t{self.match.folder}\t{board}{how}{clock}"
 
     def read(self, file: int) -> dict[str, Known]:
         """Returns what is written down, by key."""

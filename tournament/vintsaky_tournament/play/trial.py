@@ -1,5 +1,5 @@
 """The trial of an engine: before the first game on a machine its command is started once, set up as
-for a game, and asked for a move.
+for a game, with its clock, and asked for a move.
 
 It is done in a process of its own, as a game is, and that has another one below it, which asks the
 engine: where two of both and the run are killed at one moment, the third ends all that the engine
@@ -20,9 +20,11 @@ from . import process_tree
 
 if TYPE_CHECKING:
     from ..config.setup import Setup
+    from ..relay.timing import Timing
     from .known import Limits
 
 LONGEST = 8192  # bytes of an answer, as for twogtp
+LONGEST_LIST = 65536  # of one that twogtp doesn't get, as for the relay
 LAST = 2  # seconds in which it may end by itself, and in which it may say what it is
 CHUNK = 65536
 SHOWN = 80  # bytes of an answer that are shown
@@ -80,7 +82,19 @@ class Asked:
         self.judge(command, answer, str(number).encode())
         return answer
 
-    def answer_to(self, line: str, command: str, seconds: float) -> bytes:
+    def ask_own(self, command: str, seconds: float) -> bytes:
+        """Asks a command that has no number, as the relay does, and returns the text of the answer;
+        an empty one where the list of commands is refused, which then none is."""
+        answer = self.answer_to(command, command, seconds, LONGEST_LIST)
+        try:
+            self.judge(command, answer, b"")
+        except Refusal:
+            if command != "list_commands":
+                raise
+            return b""
+        return answer[1:]
+
+    def answer_to(self, line: str, command: str, seconds: float, longest: int = LONGEST) -> bytes:
         """Writes this line, and returns the answer, whatever it is. Raises Failed where none ends
         in so many seconds."""
         until = time.monotonic() + seconds
@@ -88,10 +102,10 @@ class Asked:
             os.write(self.given, f"{line}\n".encode())
         except BrokenPipeError:
             pass  # its output says more
-        while b"\n\n" not in self.read[:LONGEST]:
-            if len(self.read) >= LONGEST:
+        while b"\n\n" not in self.read[:longest]:
+            if len(self.read) >= longest:
                 self.judge_status(command, self.read)
-                length = f"more than {LONGEST} bytes"
+                length = f"more than {longest} bytes"
                 raise Failed(f"its answer to '{command}' has {length}{self.shown()}")
             left = until - time.monotonic()
             if left <= 0 or not select.select([self.taken], [], [], left)[0]:
@@ -162,22 +176,41 @@ class Asked:
         self.ending()
 
 
-def attempt(command: list[str], folder: str, log: int, setup: Setup, limits: Limits) -> Report:
+def ask_setup(engine: Asked, trial: Trial) -> int:
+    """Asks an engine what it is asked at the beginning of a game, with the commands of a clock
+    between, and returns how many commands have a number."""
+    timing, number = timing_of(trial.clock), 0
+    for number, asked in enumerate(trial.setup.commands(), 1):
+        words = asked.encode().split()
+        if timing:
+            for own in timing.commands_before(words[0], words):
+                text = engine.ask_own(own.decode(), trial.limits.answer)
+                timing.take_answer(own.split()[0], text)
+        is_move = words[0] == b"genmove"
+        engine.ask(number, asked, trial.limits.move if is_move else trial.limits.answer)
+    return number
+
+
+def timing_of(clock: str | None) -> Timing | None:
+    """Returns what a game has for a clock; None without one."""
+    if clock is None:
+        return None
+    from ..relay.clock import read_clock  # which few plans need
+    from ..relay.timing import Timing
+
+    return Timing(read_clock(clock), margin=0)
+
+
+def attempt(trial: Trial) -> Report:
     """Tries an engine, and returns its report."""
-    engine, version = Asked(command, folder, log), ""
+    engine, version = Asked(trial.command, trial.folder, trial.log), ""
     try:
         if engine.failure:
             raise Failed(engine.failure)
-        commands = setup.commands()
-        for number, asked in enumerate(commands, 1):
-            is_move = asked.startswith("genmove")
-            engine.ask(number, asked, limits.move if is_move else limits.answer)
-        said = [
-            engine.says(number, asked)
-            for number, asked in enumerate(("name", "version"), len(commands) + 1)
-        ]
+        number = ask_setup(engine, trial)
+        said = [engine.says(number + 1, "name"), engine.says(number + 2, "version")]
         version = " ".join(filter(None, said))
-        engine.quit(limits.end)
+        engine.quit(trial.limits.end)
         return Report(TrialOutcome.PASSED, "", version)
     except Failed as failed:
         outcome = TrialOutcome.UNABLE if engine.has_answered else TrialOutcome.NOT_STARTED
@@ -206,7 +239,7 @@ def watch(name: str, parent: int) -> bool:
 
 
 class Trial(NamedTuple):
-    """What is tried: an engine, in which folder, with which board and limits."""
+    """What is tried: an engine, in which folder, with which board, limits and clock."""
 
     name: str
     command: list[str]
@@ -214,6 +247,7 @@ class Trial(NamedTuple):
     log: int  # the descriptor of its standard error
     setup: Setup
     limits: Limits
+    clock: str | None
 
     def run(self, parent: int, output: int) -> NoReturn:
         """Tries the engine below this process, a new fork of the run, and ends the process. The
@@ -239,7 +273,7 @@ class Trial(NamedTuple):
             return outcome_of(status)
         if not watch(f"asks {self.name}", own):
             return TrialOutcome.BROKEN
-        report = attempt(self.command, self.folder, self.log, self.setup, self.limits)
+        report = attempt(self)
         processes.end_descendants()
         os.write(output, os.fsencode(f"{report.failure}\0{report.version}"))
         return report.outcome

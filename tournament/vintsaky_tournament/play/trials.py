@@ -56,7 +56,7 @@ def tell(known: KnownEngines, name: str, report: Report, lines: list[bytes]) -> 
 def report_on(known: KnownEngines, name: str, log: int) -> Report:
     """Tries an engine in a process of its own, and returns its report."""
     command, folder = known.match.command(name, 1), known.match.folder
-    trial = Trial(name, command, folder, log, known.setup, known.limits)
+    trial = Trial(name, command, folder, log, known.setup, known.limits, known.plan.clock)
     reads, writes = os.pipe()
     own = os.getpid()
     process = os.fork()
