@@ -1,6 +1,7 @@
 """The command `tournament export`: the results for other programs."""
 from __future__ import annotations
 
+import gc
 import os
 from typing import TYPE_CHECKING
 
@@ -21,6 +22,7 @@ def do_export(arguments: Arguments) -> int:
     forms = [form for form in FORMS if arguments.has(form)]
     if len(forms) != 1:
         raise Mistake("write one of --pgn, --csv, --jsonl and --sgf FOLDER")
+    gc.disable()  # nothing here has cycles
     (folder,) = arguments.places
     plan = read_plan(folder)
     records = Records(plan, folder, rules_of(arguments, plan))

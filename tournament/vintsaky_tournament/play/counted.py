@@ -24,9 +24,11 @@ class CountedGames:
         self.endings = Endings(plan, folder, rules)
         self.pairs = Pairs(plan, rules.ways(Rule.OUT))
         self.failed: set[int] = set()  # games that have no result after their try
-        for game, result in results.of_all(plan, folder, is_quiet=True):
+        index = self.endings.index
+        for game, result in results.of_all(plan, folder, is_quiet=True, index=index):
             if result and game not in left_out:
                 self.pairs.add(game, self.endings.of(game, result).ending, result)
+        index.forget()
         self.test: Test | None = None
         if asked:
             self.decided = Decided(folder, asked.text())

@@ -15,7 +15,7 @@ from typing import TYPE_CHECKING, Collection, NoReturn
 
 from .. import output, processes
 from ..model import NOT_STARTED, GameId, Outcome, Result, Side
-from ..store import results
+from ..store import index, results
 from ..store.layout import is_file
 from ..store.notes import waited_for
 from ..store.scores import is_by_score
@@ -45,7 +45,8 @@ class Game:
         self.is_stopped = False  # whether it was asked to end
         self.is_over = False  # whether it was longer than the limit
         self.is_alone = False  # whether all has ended that it started
-        self.result = -1  # the descriptor of the new file
+        self.result = -1  # the descriptor of the new file, and what it was before it was read
+        self.file: os.stat_result | None = None
         self.notes: NotesFile | None = None
         self.log: Log | None = None
 
@@ -112,6 +113,7 @@ class Game:
     def leave(self, status: int) -> Outcome:
         """Leaves the result, if there is one. It also counts where an engine doesn't answer `quit`,
         so that twogtp is ended when its line is there."""
+        self.file = os.fstat(self.result)
         result = self.match.rule.parse(results.contents(self.result))
         found = self.notes.read() if self.notes else None
         if status in (USAGE, BROKEN) or not result:
@@ -157,8 +159,15 @@ class Game:
         except OSError as error:
             reason = f"its result was not written: {error.strerror}"
             return self.no_result(reason, Outcome.NO_SPACE)
+        self.add_to_index(result, found)
         self.places.remove()
         return Outcome.RESULT
+
+    def add_to_index(self, result: Result, found: Notes | None) -> None:
+        """Adds the line of this result, by its file as that was before it was read."""
+        assert self.file
+        noted = (os.fstat(self.notes.file), found) if self.notes and found else None
+        index.add(self.places.folder, self.name, self.match.rule, (self.file, result), noted)
 
     def score(self, result: Result) -> None:
         """Has the scorer score the game, unless it is asked to end: the result counts anyway."""

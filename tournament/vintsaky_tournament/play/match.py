@@ -129,7 +129,7 @@ class NotesFile:
     def close(self, found: Notes, last: str) -> None:
         """Writes the last lines."""
         output.write(self.file, f"thought: {found.times()}\n{last}\n")
-        if any(found.late):
+        if any(found.late) or any(found.out_of_time):
             os.fsync(self.file)  # it says more than the result
 
 

@@ -6,6 +6,7 @@ from typing import NamedTuple
 
 from ..model import COLOURS, SIDES, Ending, Plan, Result, Way
 from ..store import notes
+from ..store.index import Index
 from .scored import Scored
 
 WITHOUT_WINNER = {"0": Way.DRAWN, "limit": Way.LIMIT}
@@ -71,7 +72,7 @@ class Endings:
     """How the games of a folder ended, by the rules for sides that failed."""
 
     def __init__(self, plan: Plan, folder: str, rules: Rules) -> None:
-        self.games, self.folder = plan.games(), folder
+        self.games, self.folder, self.index = plan.games(), folder, Index(plan, folder)
         self.losing = rules.ways(Rule.LOSES)
         self.is_direct = plan.is_direct
         self.scored = Scored(plan, folder)
@@ -94,11 +95,7 @@ class Endings:
         """Returns how a game ended in which a side was abandoned, by its notes."""
         side, (black, white) = ending.blamed, result.restarts
         assert side is not None
-        found = (
-            None
-            if self.is_direct
-            else notes.late_in(self.folder, self.games.name(game), result.line)
-        )
+        found = None if self.is_direct else self.late_in(self.games.name(game), result)
         way = Way.ABANDONED
         if found is None:
             self.unknown += 1
@@ -109,3 +106,7 @@ class Endings:
                 return Ended(Ending(side.other, side, Way.TIME), (black, white), result.verdict)
         winner = side.other if way in self.losing else None
         return Ended(Ending(winner, side, way), (black, white), result.verdict)
+
+    def late_in(self, name: str, result: Result) -> notes.Noted | notes.Late | None:
+        """Returns who was late in a game; None where its notes aren't of this result."""
+        return self.index.noted(name) or notes.late_in(self.folder, name, result.line)

@@ -62,7 +62,8 @@ class Records:
 
     def __iter__(self) -> Iterator[Record]:
         states = bytearray(self.games.count)
-        for game, result in results.of_share(self.plan, self.folder, ALL, states):
+        index = self.endings.index
+        for game, result in results.of_share(self.plan, self.folder, ALL, states, index=index):
             if result:
                 self.without -= 1
                 yield self.record(game, result)
@@ -96,13 +97,11 @@ class Records:
 
     def from_notes(self, name: str, result: Result) -> FromNotes:
         """Returns what the notes of a game say, if they are of this result."""
-        data = notes.bytes_for(self.folder, name, result.line)
-        if data is None:
+        found = self.endings.index.noted(name)
+        found = found or notes.noted_in(self.folder, name, result.line)
+        if found is None:
             return FromNotes()
-        text = data.decode("latin-1")
-        host = text.partition("\n")[0].partition(" on ")[2]
-        black, white = notes.Notes(text).thought
-        return FromNotes(host if is_host(host) else None, round(black, 3), round(white, 3))
+        return FromNotes(found.host if is_host(found.host) else None, *found.thought)
 
     def versions_on(self, host: str | None) -> dict[str, str | None]:
         """Returns the versions of the programs on a machine, as they were tried there."""

@@ -3,7 +3,7 @@ from __future__ import annotations
 
 import contextlib
 import os
-from collections import Counter
+from collections import Counter, defaultdict
 from typing import TYPE_CHECKING, Iterator, NamedTuple, Sequence
 
 from ..model import FORFEITS, SIDES, Ending, Plan, Side, State, Way
@@ -34,16 +34,16 @@ class Counts:
         self.restarts: Counter[str] = Counter()  # of each engine
         self.restarted = 0  # games
         self.pairs = Pairs(plan, self.out)
-        self.lengths: dict[int, Counter[int]] = {}  # of games by steps of LENGTH: their scores
+        # of games by steps of LENGTH: their scores
+        self.lengths: defaultdict[int, Counter[int]] = defaultdict(Counter)
         endings = Endings(plan, folder, rules)
-        for game, result in results.of_all(plan, folder):
+        for game, result in results.of_all(plan, folder, index=endings.index):
             self.states[game] = State.WHOLE if result else State.DAMAGED
             if result:
                 sides, (ending, restarts) = game % len(self.endings), endings.of(game, result)[:2]
                 self.endings[sides][ending] = self.endings[sides].get(ending, 0) + 1
                 self.pairs.add(game, ending, result)
-                lengths = self.lengths.setdefault(result.length // LENGTH, Counter())
-                lengths[self.pairs.scores[game]] += 1
+                self.lengths[result.length // LENGTH][self.pairs.scores[game]] += 1
                 if any(restarts):
                     self.add_restarts(self.games.sides[sides], restarts)
         self.all_endings: Counter[Ending] = Counter()

@@ -46,7 +46,7 @@ class Places:
     """Where the files of a game lie."""
 
     def __init__(self, folder: str, name: str) -> None:
-        self.name, self.at = name, f"{folder}/running/{name}"
+        self.folder, self.name, self.at = folder, name, f"{folder}/running/{name}"
         self.result, self.log = f"{folder}/games/{name}", f"{folder}/logs/{name}"
         self.notes = f"{folder}/notes/{name}"
         self.new_result, self.new_log = f"{self.at}/result", f"{self.at}/log"

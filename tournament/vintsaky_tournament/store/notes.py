@@ -29,6 +29,7 @@ from . import results
 
 TOO_LATE = ("late", "out-of-time")
 UNANSWERED = (*TOO_LATE, "ended", "waited", "not")  # what the notes say where no answer follows
+NO_MOVE = (*UNANSWERED, "failed", "no-vertex")  # and where the answer is no move
 NOTHING_ASKED = "nothing was asked"
 SECONDS = re.compile(r"([0-9]{1,15}(?:\.[0-9]{1,9})?):?")
 
@@ -40,14 +41,28 @@ class Awaited(NamedTuple):
     text: str
 
 
+class Noted(NamedTuple):
+    """What tallies and exports need of the notes of a game, of Black and of White."""
+
+    host: str  # on which it was played
+    thought: tuple[float, float]  # seconds
+    moved: tuple[float, float]  # seconds of all moves that were answered, and of the longest one
+    longest: tuple[float, float]
+    moves: tuple[int, int]  # how many these are
+    late: tuple[int, int]  # how often
+    out_of_time: tuple[int, int]
+    ignored: tuple[int, int]  # restarts that started nothing, since the engine was late before
+
+
 class Notes:
     """What the notes of a game say of both sides, Black's first."""
 
     def __init__(self, text: str) -> None:
+        self.host = text.partition("\n")[0].partition(" on ")[2]
         self.started = [False, False]  # whether any command was answered
-        self.late = [False, False]  # or out of time
-        self.ignored = [0, 0]  # restarts that started nothing, since the engine was late before
-        self.thought = [0.0, 0.0]  # seconds
+        self.late, self.out_of_time, self.ignored = [0, 0], [0, 0], [0, 0]  # as Noted has them
+        self.thought = [0.0, 0.0]
+        self.moves, self.moved, self.longest = [0, 0], [0.0, 0.0], [0.0, 0.0]
         self.processor: list[float] | None = None  # the same of processors, where that is noted
         self.last_failure = ["", ""]  # how the last start ended of those that ended too early
         self.awaited: Awaited | None = None  # at the end
@@ -69,11 +84,35 @@ class Notes:
             self.processor = self.processor or [0.0, 0.0]
             self.processor[side] += seconds_of("".join(words[5:6]))
         if len(words) == 4 and event != "started" or " genmove " in rest or has_processor:
-            self.thought[side] += seconds_of(words[3])
+            self.add_time(side, event, words[3])
         self.started[side] = self.started[side] or event == "started"
-        self.late[side] = self.late[side] or event in TOO_LATE
+        self.late[side] += event == "late"
+        self.out_of_time[side] += event == "out-of-time"
         self.ignored[side] += event == "stays"
         self.awaited = Awaited(side, rest) if event in ("waited", "thinks") else None
+
+    def add_time(self, side: Side, event: str, word: str) -> None:
+        """Takes the time of a move, or of another answer to genmove."""
+        seconds = seconds_of(word)
+        self.thought[side] += seconds
+        if event not in NO_MOVE and SECONDS.fullmatch(word):
+            self.moves[side] += 1
+            self.moved[side] += seconds
+            self.longest[side] = max(self.longest[side], seconds)
+
+    def noted(self) -> Noted:
+        """Returns what tallies and exports need, with seconds to a thousandth."""
+        (black, white), moved, longest = self.thought, self.moved, self.longest
+        return Noted(
+            self.host,
+            (round(black, 3), round(white, 3)),
+            (round(moved[0], 3), round(moved[1], 3)),
+            (longest[0], longest[1]),
+            (self.moves[0], self.moves[1]),
+            (self.late[0], self.late[1]),
+            (self.out_of_time[0], self.out_of_time[1]),
+            (self.ignored[0], self.ignored[1]),
+        )
 
     def times(self) -> str:
         """Returns how long both sides thought, and processors for them, where that is noted."""
@@ -150,6 +189,12 @@ def late_in(folder: str, name: str, line: str) -> Late | None:
     """Returns who was late in a game; None where its notes aren't of a result with this line."""
     data = bytes_for(folder, name, line)
     return None if data is None else Late(data)
+
+
+def noted_in(folder: str, name: str, line: str) -> Noted | None:
+    """Returns what the notes of a game say; None where they aren't of a result with this line."""
+    data = bytes_for(folder, name, line)
+    return None if data is None else Notes(data.decode("latin-1")).noted()
 
 
 def is_loss_on_time(folder: str, name: str, result: Result) -> bool:

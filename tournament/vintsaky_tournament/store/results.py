@@ -17,6 +17,7 @@ from ..model import COLUMNS, FORFEITS, Plan, Result, State
 
 if TYPE_CHECKING:
     from ..cluster import Share
+    from .index import Index
 
 OTHER_VERDICTS = (
     *("limit", "B+R", "W+R"),
@@ -41,6 +42,7 @@ class Rule:
     def __init__(self, plan: Plan) -> None:
         setup, self.has_board = Setup(plan.options), plan.has_boards()
         size, komi = setup.rows(), setup.half_points()
+        self.mark = f"{size} {komi} {self.has_board:d}"  # of this rule, unlike others
         scores = range(-2 * size**2 - komi, 2 * size**2 - komi + 1, 2)
         self.verdicts = frozenset([*OTHER_VERDICTS, *map(score, scores)])
         move = f"(?:[{COLUMNS[:size]}](?:{rows(size)})|pass)"
@@ -135,7 +137,11 @@ class Unreadable:
 
 
 def of_all(
-    plan: Plan, folder: str, states: bytearray | None = None, is_quiet: bool = False
+    plan: Plan,
+    folder: str,
+    states: bytearray | None = None,
+    is_quiet: bool = False,
+    index: Index | None = None,
 ) -> Iterator[tuple[int, Result | None]]:
     """Yields the games of the plan that have a file, except those with a result by these states:
     the number of each, and its result; None where that is damaged or can't be read."""
@@ -151,7 +157,8 @@ def of_all(
                 if number is None or states and states[number] in HAVE_RESULT:
                     continue
                 try:
-                    yield number, rule.read(file.name, directory)
+                    known = index.result(file.name) if index else None
+                    yield number, known or rule.read(file.name, directory)
                 except FileNotFoundError:
                     continue
                 except OSError as error:
@@ -163,7 +170,12 @@ def of_all(
 
 
 def of_share(
-    plan: Plan, folder: str, share: Share, states: bytearray, is_quiet: bool = False
+    plan: Plan,
+    folder: str,
+    share: Share,
+    states: bytearray,
+    is_quiet: bool = False,
+    index: Index | None = None,
 ) -> Iterator[tuple[int, Result | None]]:
     """Yields the same of a share of the games, in the plan's order, and looks at no others."""
     games, rule, unreadable = plan.games(), Rule(plan), Unreadable(folder, is_quiet)
@@ -171,7 +183,8 @@ def of_share(
         if states[number] not in HAVE_RESULT:
             name = games.name(number)
             try:
-                yield number, rule.read(f"{folder}/games/{name}")
+                known = index.result(name) if index else None
+                yield number, known or rule.read(f"{folder}/games/{name}")
             except FileNotFoundError:
                 continue
             except OSError as error:
