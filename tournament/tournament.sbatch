@@ -13,9 +13,9 @@
 #
 # Task 3 of 99 plays the games 3, 102, 201 and so on, as many at once as --cpus-per-task says. TASKS should have no common factor with the
 # number of games of a seed, which is two for every two engines: take a prime number above the number of engines. To go on, submit the array
-# again with the same TASKS, or a part of the array: --array=3,7. A task begins no game that doesn't fit into the time that the task has left,
-# so --time has to be more than the limit of a game. If `tournament` isn't in PATH, set TOURNAMENT to its path, and TWOGTP to the path of
-# twogtp.
+# again with the same TASKS, or a part of the array: --array=3,7. After TASKS there may be options of tournament play, such as --again; for
+# --sprt take no more TASKS than run at once. A task begins no game that doesn't fit into the time that the task has left, so --time has to be
+# more than the limit of a game. If `tournament` isn't in PATH, set TOURNAMENT to its path, and TWOGTP to the path of twogtp.
 #
 # On a node where an engine can't be started, a task excludes this node and is queued again; Slurm starts it after two minutes. At its third
 # such node, or where no other node is left, it ends with 69. squeue --format '%i %k' shows these nodes. If a node dies, Slurm gives its tasks
@@ -72,23 +72,24 @@ others() {
     sinfo --noheader --Node --partition "$SLURM_JOB_PARTITION" --format %N | grep -qvxFf <(scontrol show hostnames "$1")
 }
 
-if [ $# -ne 2 ] || [ -z "${SLURM_ARRAY_TASK_ID:-}" ]; then
+if [ $# -lt 2 ] || [ -z "${SLURM_ARRAY_TASK_ID:-}" ]; then
     {
-        [ $# -eq 2 ] && echo 'tournament.sbatch: SLURM_ARRAY_TASK_ID is not set: submit it by sbatch, as an array' \
+        [ $# -ge 2 ] && echo 'tournament.sbatch: SLURM_ARRAY_TASK_ID is not set: submit it by sbatch, as an array' \
             || echo 'tournament.sbatch: give FOLDER and the number of TASKS'
-        echo 'usage: sbatch --array=1-TASKS tournament.sbatch FOLDER TASKS'
+        echo 'usage: sbatch --array=1-TASKS tournament.sbatch FOLDER TASKS [OPTION ..]'
     } >&2
     exit 2
 fi
 # The id of the array's last task is that of the array, for which squeue lists all tasks. So ask for the task by its name.
 task=${SLURM_ARRAY_JOB_ID:-}_$SLURM_ARRAY_TASK_ID
-words=(--task "$SLURM_ARRAY_TASK_ID/$2" --jobs "${SLURM_CPUS_PER_TASK:-1}")
+folder=$1 words=(--task "$SLURM_ARRAY_TASK_ID/$2" --jobs "${SLURM_CPUS_PER_TASK:-1}")
 if read -r left < <(squeue --noheader --jobs "$task" --Format TimeLeft) && [ -n "$left" ]; then
     words+=(--time-left "$left")
 else
     say "squeue doesn't say how much time is left, so a game may be cut off"
 fi
-run "${TOURNAMENT:-tournament}" play "$1" "${words[@]}"
+shift 2
+run "${TOURNAMENT:-tournament}" play "$folder" "${words[@]}" "$@"
 status=$?
 [ "$status" -ne "$NO_START" ] || move
 exit "$status"

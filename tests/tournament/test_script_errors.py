@@ -8,7 +8,7 @@ import pytest
 from tests.shared.script_errors import ScriptError, check_error, errors_of
 
 PLAN = "tournament plan all --engine 'one=gtp_engine --seed %s' --engine 'two=gtp_engine --seed %s'"
-SBATCH = "usage: sbatch --array=1-TASKS tournament.sbatch FOLDER TASKS\n"
+SBATCH = "usage: sbatch --array=1-TASKS tournament.sbatch FOLDER TASKS [OPTION ..]\n"
 
 ERRORS = {
     "tournament/machine": [

@@ -77,6 +77,9 @@ def test_tasks_of_an_array(runner: Runner, small_results: Dict[str, str]) -> Non
     assert runner.games() == small_results
     line = "0 of 0 games of task 9/100 have a result\n"
     assert task(runner, 9, "all", 100) == (0, line, "")
+    # options of a run follow; a test counts what all tasks have played
+    done = task(runner, 9, "all", 100, "--sprt", "0", "10")
+    assert (done.status, done.output.startswith(f"{line}one - two: go on: 4 pairs (")) == (0, True)
 
 
 @pytest.mark.parametrize("words", [[], ["all"], ["all", "3", "4"], ["all", "0"]], ids=" ".join)

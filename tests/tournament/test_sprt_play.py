@@ -91,6 +91,31 @@ def test_two_runs_in_one_folder(runner: Runner) -> None:
     assert runner.is_idle()
 
 
+@pytest.mark.parametrize("fails", [0, 3])
+def test_two_tasks(fails: int, runner: Runner) -> None:
+    """Each has the games with one colour, and waits for those of the other one."""
+    plan(runner, waits=22 if fails else 21, fails=fails)
+    words = ["tournament", "play", "all", "--sprt", "0", "100", "--jobs", "2", "--task"]
+    line = LINE.format(20)
+    if fails:
+        line = LINE.format(21) + "; left out, without a result after their try: 3_"
+    for done in map(runner.finish, [runner.start(*words, task) for task in ("1/2", "2/2")]):
+        assert (done.status, last_lines(done)[-1].startswith(line)) == (0, True)
+    assert runner.is_idle()
+    tallied = f"{line}one_two, 3_two_one\n" if fails else f"{line}\n"
+    assert runner.tally("all", "--sprt", "0", "100").output == tallied
+
+
+def test_one_task_after_the_other(runner: Runner) -> None:
+    plan(runner, waits=61)
+    done = play(runner, "--task", "1/2")
+    assert (done.status, last_lines(done)[0]) == (0, "60 of 60 games of task 1/2 have a result")
+    assert last_lines(done)[1].startswith("one - two: go on: 0 pairs (")
+    done = play(runner, "--task", "2/2", "--jobs", "1")
+    counted = "20 of 60 games of task 2/2 have a result, 40 are missing"
+    assert (done.status, last_lines(done)) == (0, [counted, LINE.format(20)])
+
+
 def test_test_that_needs_more_pairs(runner: Runner) -> None:
     plan(runner, waits=61)
     done = play(runner, "--between", "two", "one", "--alpha", "0.001", "--beta", "0.001")
@@ -112,7 +137,6 @@ def test_damaged_result_is_played_again(runner: Runner) -> None:
 @pytest.mark.parametrize(
     "words, mistake",
     [
-        ("--task 1/2", "--sprt needs all games, and --task plays some of them"),
         ("--alpha 0", "--alpha needs a number from 0.001 to 0.25, such as --alpha 0.05, and not"),
         ("--beta .26", "--beta needs a number from 0.001 to 0.25, such as --beta 0.05, and not"),
     ],

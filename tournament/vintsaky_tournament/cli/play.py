@@ -133,11 +133,6 @@ def do_play(arguments: Arguments) -> int:
     if folder.surplus:
         output.report(folder.surplus)
     asked = asked_of(arguments, plan)
-    if asked and task:
-        raise Mistake(
-            "--sprt needs all games, and --task plays some of them: give only one of the two; "
-            "without --task several machines may play in one folder, too"
-        )
     if arguments.has("--dry-run"):
         return dry_run(prepared, task, arguments.has("--again"))
     run = Run(plan, folder.place, prepared.twogtp)

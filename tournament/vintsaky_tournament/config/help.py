@@ -116,7 +116,9 @@ MORE_OF_PLAY = (
   --sprt ELO0 ELO1   end the run once a sequential test is over: whether the
                      plan's first engine is stronger than its second by ELO0 or
                      by ELO1 Elo. Pairs count in the order of seeds; one is left
-                     out whose game has no result after its try
+                     out whose game has no result after its try. With --task all
+                     results in FOLDER count; as many tasks as there are have to
+                     run at once, or pairs wait for a task that hasn't begun
 """
     + BETWEEN
 )

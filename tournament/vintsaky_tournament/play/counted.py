@@ -40,8 +40,8 @@ class CountedGames:
         return self.test is not None and self.test.decision is not None
 
     def awaited(self) -> list[int]:
-        """Returns the games for which a test waits."""
-        return self.test.awaited() if self.test else []
+        """Returns the games without a result for which a test waits."""
+        return list(filter(self.test.is_missing, self.test.awaited())) if self.test else []
 
     def add(self, game: int, result: Result) -> None:
         """Takes a game that has a result."""
@@ -64,9 +64,13 @@ class CountedGames:
 
     def standing(self) -> str:
         """Returns who leads, and what the test says, for the line of progress."""
-        from ..report.text import line_of_leader, ratios_of  # which aren't needed elsewhere
+        from ..report.text import line_of_leader  # which isn't needed elsewhere
 
         first = leader(self.pairs, self.engines)
-        parts = [line_of_leader(first)] if first else []
-        parts += [ratios_of(self.test)] if self.test else []
-        return "".join(f"; {part}" for part in parts)
+        return f"{f'; {line_of_leader(first)}' if first else ''}{self.ratios()}"
+
+    def ratios(self) -> str:
+        """Returns what the test says, if there is one, for the line of progress."""
+        from ..report.text import ratios_of  # which isn't needed elsewhere
+
+        return f"; {ratios_of(self.test)}" if self.test else ""

@@ -111,15 +111,35 @@ class Play:
         if self.counted_games:
             self.counted_games.add_failed(game)
 
+    def awaited_of_others(self) -> list[int]:
+        """Returns the games for which a test waits and that another process plays: those of other
+        shares, too."""
+        awaited = self.counted_games.awaited() if self.counted_games else []
+        return [game for game in awaited if game in self.later or game not in self.own]
+
     def add_of_others(self) -> None:
-        """Counts what another process has played meanwhile of the pair for which a test waits."""
-        for game in self.counted_games.awaited() if self.counted_games else ():
-            place = Places(self.run.folder, self.games.name(game))
-            # a scorer may be asked until there is no lock any more
-            if game in self.later and not os.path.lexists(place.lock):
-                if result := self.run.whole(place):
-                    self.later.remove(game)
-                    self.add_result(game, result)
+        """Counts what other processes have played meanwhile of the pairs for which a test waits."""
+        while any([self.add_of_other(game) for game in self.awaited_of_others()]):
+            pass
+
+    def add_of_other(self, game: int) -> bool:
+        """Counts a game that another process plays, if that has ended. Returns whether it has."""
+        assert self.counted_games
+        place = Places(self.run.folder, self.games.name(game))
+        # a scorer may be asked until there is no lock any more
+        if os.path.lexists(place.lock):
+            return False
+        result, is_own = self.run.whole(place), game in self.own
+        if result and is_own:
+            self.later.remove(game)
+            self.add_result(game, result)
+        elif result:
+            self.counted_games.add(game, result)
+        elif not is_own and results.logged_reason(place.log):
+            self.counted_games.add_failed(game)
+        else:
+            return False
+        return True
 
     def count_again(self) -> None:
         """Counts the results again: all of them where a game was played, since others may be gone
@@ -193,7 +213,7 @@ class Play:
         """Waits until a game has ended, and writes its line; or until it is time to say how far the
         run is."""
         pause = self.progress.pause()
-        if self.later and self.counted_games and self.counted_games.awaited():
+        if self.awaited_of_others():
             pause = min(pause, AGAIN)  # for games of other processes, which wake up nobody
         for name, outcome, result in self.run.wait(pause):
             game, engines = self.games.number(name), GameId.parse(name).engines
@@ -220,7 +240,7 @@ class Play:
     def standing(self) -> str:
         """Returns who leads by now, for the line of progress."""
         if self.share:  # whose pairs are in other shares, too
-            return ""
+            return self.counted_games.ratios() if self.counted_games else ""
         if not self.counted_games:
             from .counted import CountedGames  # which isn't needed elsewhere
 
@@ -284,6 +304,7 @@ class Play:
             from .counted import CountedGames  # which isn't needed elsewhere
 
             self.counted_games = CountedGames(self.plan, self.run.folder, self.old, asked)
+            self.add_of_others()
         if not self.share:
             clear_running(self.run.folder)
         self.play()
