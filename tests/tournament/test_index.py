@@ -15,7 +15,7 @@ from .inside import module
 from .runner import TWO, Done, Runner, engines
 from .test_again import NEW, OLD, notes, result
 
-COMMANDS = ["tally all --json", "tournament export all --jsonl"]
+COMMANDS = ["tally all --json --by time", "tournament export all --jsonl"]
 ALL_COMMANDS = [
     *COMMANDS,
     "tally all",

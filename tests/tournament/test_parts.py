@@ -1,4 +1,4 @@
-"""tally --by: the score of games by colour, opening or length."""
+"""tally --by: the score of games by colour, opening, length or time a move."""
 from __future__ import annotations
 
 import json
@@ -62,7 +62,55 @@ def test_json(name: str, count: int, runner: Runner) -> None:
         assert found[0] == {"name": "a black", "games": 6, "score": 0.25, "interval": interval}
 
 
+# a won both games: with moves of 1 and 3 seconds, and with one of 0.5. b had 0.25, and 0.2 and 0.3.
+# Of one game that is won the mean is 3/4, and the half 1.95996 * sqrt(0.375 / 2) = 0.84869; of two
+# that are lost they are 1/6 and 1.95996 * sqrt(5/12 / 6) = 0.51650.
+BY_TIME = """\
+time             games          score  95 % interval   mean move  longest
+a 0.5 to 1 s         1          100.0  0.0 to 100.0        0.500    0.500
+a 2 to 5 s           1          100.0  0.0 to 100.0        2.000    3.000
+b 0.2 to 0.5 s       2            0.0  0.0 to 68.3         0.250    0.300
+"""
+# what is no move, or none of the engine's own, and a move that was taken back, which took its time
+MOVES = {
+    "1_a_b": "0 black started 7.5\n1 black D4 opening\n2 white failed 9.0\n2 white E5 0.25\n"
+    "3 black C3 1.0\n3 black undone\n3 black C4 3.0 cpu 2.5\n",
+    "1_b_a": "1 black D4 0.2\n2 white E5 0.5\n3 black no-vertex 8.0\n3 black resign 0.3\n",
+}
+
+
+@pytest.fixture
+def timed(runner: Runner) -> Runner:
+    """Returns what runs the scripts where two games have notes, and one has those of another."""
+    results = {"1_a_b": f"B+R {ENDED}", "1_b_a": f"W+R {ENDED}", "2_a_b": f"W+R {ENDED}"}
+    write_plan(runner.folder / "all", "ab", 2)
+    write_results(runner.folder / "all", results)
+    (runner.folder / "all/notes").mkdir()
+    for game, moves in {**MOVES, "2_a_b": "1 black D4 100.0\n"}.items():
+        verdict = "0 moves 2 restarts 0 0" if game == "2_a_b" else results[game]
+        runner.write(f"all/notes/{game}", f"{game} on here\n{moves}result: {verdict}\n")
+    return runner
+
+
+def test_table_of_times(timed: Runner) -> None:
+    assert timed.tally("all", "--by", "time") == (1, BY_TIME, "")
+
+
+def test_times_in_json(timed: Runner) -> None:
+    found = json.loads(timed.tally("all", "--json", "--by", "time").output)["by_time"]
+    names = ["a 0.5 to 1 s", "a 2 to 5 s", "b 0.2 to 0.5 s"]
+    assert [each["name"] for each in found] == names
+    assert [(each["mean"], each["longest"]) for each in found] == [(0.5, 0.5), (2, 3), (0.25, 0.3)]
+    assert "by_time" not in json.loads(timed.tally("all", "--json").output)
+
+
+def test_times_of_games_without_notes(runner: Runner) -> None:
+    write_plan(runner.folder / "all", "ab", 1, "direct")
+    said = "tally: --by time is for games with notes, which those of --direct haven't\n"
+    assert runner.tally("all", "--by", "time") == (2, "", said)
+
+
 def test_mistake(runner: Runner) -> None:
     write_each_verdict(runner)
-    said = "tally: --by needs colour, opening, length after it, and not 'time'\n"
-    assert runner.tally("all", "--by", "time") == (2, "", said)
+    said = "tally: --by needs colour, opening, length, time after it, and not 'moves'\n"
+    assert runner.tally("all", "--by", "moves") == (2, "", said)

@@ -7,6 +7,7 @@ from typing import Sequence
 from .. import VERSION, output
 from ..config.arguments import Arguments
 from ..config.plan_file import read_plan
+from ..model import Plan
 from ..output import Mistake
 from ..stats.summary import Counts, Summary
 from .losses import rules_of
@@ -31,6 +32,13 @@ def part_name(name: str, value: str) -> str:
     return value
 
 
+def needs_times(name: str | None, plan: Plan) -> bool:
+    """Returns whether the games of a plan are to be counted by the time of moves."""
+    if name == "time" and plan.is_direct:
+        raise Mistake("--by time is for games with notes, which those of --direct haven't")
+    return name == "time"
+
+
 def main(words: Sequence[str]) -> int:
     """Writes the tally of a folder, and returns the status."""
     if words and words[0] in ("-V", "--version"):
@@ -47,7 +55,8 @@ def main(words: Sequence[str]) -> int:
     plan = read_plan(folder)
     asked, leave_out = asked_of(arguments, plan), arguments.last("--no-winner", is_left_out)
     by = arguments.last("--by", part_name)
-    counts = Counts(plan, folder, rules_of(arguments, plan), bool(leave_out))
+    has_times = needs_times(by, plan)
+    counts = Counts(plan, folder, rules_of(arguments, plan), bool(leave_out), has_times)
     test = counts.test(asked) if asked else None
     if arguments.has("--json"):
         from ..report.as_json import json_of

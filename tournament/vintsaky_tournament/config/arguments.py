@@ -63,7 +63,7 @@ OF_TALLY: Options = {
     **OF_LOSSES,
     "--no-winner": Option("half or out", "--no-winner out"),
     **OF_TEST,
-    "--by": Option("colour, opening or length", "--by colour"),
+    "--by": Option("colour, opening, length or time", "--by colour"),
     "--json": None,
 }
 OF_EXPORT: Options = {

@@ -324,7 +324,7 @@ status: 0  all of these games are scored
 """,
     "tally": """\
 usage: tally FOLDER [--abandoned half|out|loses] [--late half|out|loses]
-           [--no-winner half|out] [--json] [--by colour|opening|length]
+           [--no-winner half|out] [--json] [--by colour|opening|length|time]
            [--sprt ELO0 ELO1 [--between NAME NAME] [--alpha N] [--beta N]]
        tally --version
 
@@ -349,10 +349,12 @@ intervals that follow from whole pairs.
     + BETWEEN
     + """\
   --by KIND          print the scores of games by colour, opening or length,
-                     with intervals; those by opening or length are Black's
+                     with intervals; those by opening or length are Black's. By
+                     time, each engine has a line for its games in which its
+                     moves took so many seconds on average
   --json             print JSON: scores are from 0 to 1, an infinite Elo is
                      null, and pairs that repeat each other count as one in
-                     pairs_in_interval
+                     pairs_in_interval. It has scores by time with --by time
 
 status: 0  each game of the plan has a result; with --sprt: ELO1 is accepted
         1  some game has no result, or its file is damaged

@@ -40,7 +40,11 @@ def facts_of(summary: Summary, test: Test | None = None) -> dict[str, Any]:
         "engines": [of_engine(row, blames[row.name]) for row in summary.order],
         **of_standings(summary.standings()),
         "pairs": [of_pairing(row) for row in summary.played()],
-        **{f"by_{name}": of_parts(parts(counts)) for name, parts in PARTS.items()},
+        **{
+            f"by_{name}": of_parts(parts(counts))
+            for name, parts in PARTS.items()
+            if name != "time" or counts.times
+        },
         "same": [[name(game) for game in group] for group in counts.pairs.same()],
         "damaged": counts.damaged(),
         "no_result": dict(without_result(counts)),
@@ -91,8 +95,14 @@ def of_pairing(row: PairingRow) -> dict[str, Any]:
 def of_parts(parts: list[Part]) -> list[dict[str, Any]]:
     """Returns parts of the games, each with its score."""
     return [
-        {"name": name, "games": games, "score": score, "interval": [low, high]}
-        for name, games, score, low, high in parts
+        {
+            "name": part.name,
+            "games": part.games,
+            "score": part.score,
+            "interval": [part.low, part.high],
+            **({} if part.mean is None else {"mean": part.mean, "longest": part.longest}),
+        }
+        for part in parts
     ]
 
 

@@ -1,5 +1,5 @@
-"""The games of a tournament by opening, by colour or by length: the score of each part, with its
-95 % interval. Here a game is one observation; only pairs say which engine is stronger."""
+"""The games of a tournament by opening, colour, length or time a move: the score of each part, with
+its 95 % interval. Here a game is one observation; only pairs say which engine is stronger."""
 from __future__ import annotations
 
 from collections import Counter
@@ -9,16 +9,20 @@ from . import scores
 from .pairs import COUNTED, POINTS, Score
 from .scores import Cluster
 from .summary import LENGTH, Counts
+from .times import name_of
 
 
 class Part(NamedTuple):
-    """Some games: what they have in common, how many count, and their score with its interval."""
+    """Some games: what they have in common, how many count, and their score with its interval.
+    Where they are those of so much time a move, also the seconds of a move."""
 
     name: str
     games: int
     score: float
     low: float
     high: float
+    mean: float | None = None
+    longest: float | None = None
 
 
 def part(name: str, counts: Mapping[int, int]) -> list[Part]:
@@ -71,4 +75,14 @@ def by_length(counts: Counts) -> list[Part]:
     ]
 
 
-PARTS = {"colour": by_colour, "opening": by_opening, "length": by_length}
+def by_time(counts: Counts) -> list[Part]:
+    """Returns the score of each engine in games in which its moves took so long on average."""
+    return [
+        each._replace(mean=step.mean, longest=step.longest)
+        for name, steps in (counts.times.steps if counts.times else {}).items()
+        for at, step in sorted(steps.items())
+        for each in part(f"{name} {name_of(at)}", step.scores)
+    ]
+
+
+PARTS = {"colour": by_colour, "opening": by_opening, "length": by_length, "time": by_time}

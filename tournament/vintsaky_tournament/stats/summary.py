@@ -14,6 +14,7 @@ from .pairs import PairCounts, Pairs
 if TYPE_CHECKING:
     from .sprt import Test, TestRequest
     from .standings import Standings
+    from .times import Times
 
 OTHERS_TO_LOOK_INTO = (Way.UNFIT, Way.ABANDONED, Way.LATE, Way.TIME)
 LENGTH = 50  # moves of a step, by which games are counted
@@ -21,10 +22,16 @@ LENGTH = 50  # moves of a step, by which games are counted
 
 class Counts:
     """What was counted of the results in a folder, by the rules for sides that failed. Games that
-    nobody won may be left out of the pairs, unless they are drawn."""
+    nobody won may be left out of the pairs, unless they are drawn. The times of moves, for which
+    all notes are read that have no index, are counted where that is asked."""
 
     def __init__(
-        self, plan: Plan, folder: str, rules: Rules = Rules(), leave_out_undecided: bool = False
+        self,
+        plan: Plan,
+        folder: str,
+        rules: Rules = Rules(),
+        leave_out_undecided: bool = False,
+        has_times: bool = False,
     ) -> None:
         self.plan, self.games, self.folder, self.rules = plan, plan.games(), folder, rules
         self.out = set(Way) - {Way.DRAWN} if leave_out_undecided else set(rules.ways(Rule.OUT))
@@ -37,6 +44,7 @@ class Counts:
         # of games by steps of LENGTH: their scores
         self.lengths: defaultdict[int, Counter[int]] = defaultdict(Counter)
         endings = Endings(plan, folder, rules)
+        self.times = self.new_times(endings) if has_times else None
         for game, result in results.of_all(plan, folder, index=endings.index):
             self.states[game] = State.WHOLE if result else State.DAMAGED
             if result:
@@ -44,6 +52,8 @@ class Counts:
                 self.endings[sides][ending] = self.endings[sides].get(ending, 0) + 1
                 self.pairs.add(game, ending, result)
                 self.lengths[result.length // LENGTH][self.pairs.scores[game]] += 1
+                if self.times:
+                    self.times.add(game, result, self.pairs.scores[game])
                 if any(restarts):
                     self.add_restarts(self.games.sides[sides], restarts)
         self.all_endings: Counter[Ending] = Counter()
@@ -52,6 +62,12 @@ class Counts:
         self.unknown, self.scored = endings.unknown, endings.scored
         self.have = self.states.count(State.WHOLE)
         self.find_logs()
+
+    def new_times(self, endings: Endings) -> Times:
+        """Returns what counts the times of moves."""
+        from .times import Times  # which isn't needed elsewhere
+
+        return Times(self.plan, self.folder, endings.index)
 
     def find_logs(self) -> None:
         """Finds the games without a result of which there is a log."""
