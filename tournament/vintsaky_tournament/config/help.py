@@ -135,9 +135,9 @@ FILES = """\
 A game is named SEED_BLACK_WHITE. FOLDER/games has its result and record,
 FOLDER/notes its moves as they are played, and FOLDER/logs its standard error,
 if there was any. FOLDER/index only makes tallies and exports quicker: you can
-remove it at any time. The twogtp that plays is the one that TWOGTP names, or else
-the one in ../bin or ../../bin, seen from the directory of these scripts, or
-else the one in PATH.
+remove it at any time. The twogtp that plays is the one that TWOGTP names, or
+else the one in ../bin or ../../bin, seen from the directory of these scripts,
+or else the one in PATH.
 """
 STATUS = """\
 status: 0  each game has a result, and no side was unfit or abandoned; or the
