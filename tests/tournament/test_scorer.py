@@ -158,8 +158,12 @@ def test_run_that_is_stopped_while_a_game_is_scored_keeps_the_result(runner: Run
     assert runner.games() == {"1_one_two": LINES["1_one_two"]}
     assert runner.is_idle()
     scorer(runner, STONES)
+    later = runner.tournament("play", "all")
+    say = "tournament: games that aren't scored yet: 1; tournament score all scores them\n"
+    assert (later.status, later.errors) == (0, say)
     assert runner.tournament("score", "all").status == 0
-    assert rows(runner) == [["B+4", "black"]]
+    assert rows(runner) == [["B+4", "black"], ["W+14", "white"]]
+    assert runner.tournament("play", "all") == (0, "2 of 2 games have a result\n", "")
 
 
 # GNU Go played this against itself, and passed where others play on. Played on to capture by GNU Go

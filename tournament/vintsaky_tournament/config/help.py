@@ -259,8 +259,9 @@ status: 0  the names are printed
             """\
 usage: tournament game FOLDER GAME
 
-Plays one game of FOLDER/plan, such as 1_one_two. If the game has a result, or
-another process is playing it, this command plays nothing and ends with 0.
+Plays one game of FOLDER/plan, such as 1_one_two; %slot is 0. If the game has a
+result, or another process is playing it, this command plays nothing and ends
+with 0.
 """,
             FILES,
             STATUS,

@@ -380,6 +380,18 @@ class Play:
             left = f"{';' if lost else ','} {missing} are missing"
         return f"{self.count} of {self.total} games{share} have a result{again}{left}"
 
+    def say_what_is_not_scored(self) -> None:
+        """Says how many games of the plan aren't scored, if it has a scorer, and any aren't."""
+        if self.plan.scorer and not self.share and not self.run.stopped:
+            from ..store.scores import count_missing  # which isn't needed elsewhere
+
+            count = count_missing(self.plan, self.run.folder)
+            if count:
+                output.report(
+                    f"games that aren't scored yet: {count}; tournament score {self.run.folder} "
+                    "scores them"
+                )
+
     def status(self) -> int:
         """Says how many games have a result, and returns the status."""
         counted = self.counted()
@@ -398,6 +410,7 @@ class Play:
             from ..report.text import line_of_test  # which isn't needed elsewhere
 
             self.print(line_of_test(self.counted_games.test))
+        self.say_what_is_not_scored()
         if not self.is_written:
             output.report(f"{counted}; the same command goes on")
         if self.is_unable:

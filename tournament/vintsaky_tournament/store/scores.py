@@ -10,8 +10,8 @@ import os
 import zlib
 from typing import NamedTuple
 
-from ..model import Result
-from .results import bytes_of
+from ..model import Plan, Result
+from .results import bytes_of, of_all
 
 BY_STONES, BY_SCORE = "final_status_list", "final_score"
 
@@ -76,3 +76,12 @@ def read(folder: str, name: str, scorer: str, result: Result) -> Score | None:
     if not verdict or method not in (BY_STONES, BY_SCORE):
         return None
     return Score(verdict, method, tuple(found.get("dead", "").split()))
+
+
+def count_missing(plan: Plan, folder: str) -> int:
+    """Returns how many games the scorer of a plan was not asked for, or was stopped in."""
+    count, scorer = 0, plan.scorer or ""
+    for number, result in of_all(plan, folder, is_quiet=True):
+        if result and is_by_score(result.verdict):
+            count += read(folder, plan.games().name(number), scorer, result) is None
+    return count
