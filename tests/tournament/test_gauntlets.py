@@ -47,6 +47,15 @@ def test_gauntlet(runner: Runner) -> None:
     assert sorted(pairs) == [["all", "two"], ["one", "two"], ["three", "two"]]
 
 
+def test_engine_of_an_earlier_plan_that_is_named_all(runner: Runner) -> None:
+    write_plan(runner.folder / "x", ["all", "b", "c"], 1)
+    for game in ("1_all_b", "1_all_c", "1_b_c"):
+        write_result(runner.folder / "x", game, f"B+R {ENDED}", unique_moves(game, 30))
+    lines = [line.split("  ")[0] for line in runner.tally("x").output.splitlines()]
+    sums = [f"{name} - all others" for name in ("all", "b", "c")]
+    assert [line for line in lines if " - " in line] == [*sums, "all - b", "all - c", "b - c"]
+
+
 def test_engine_is_added_to_a_gauntlet(runner: Runner) -> None:
     gauntlet = ["--gauntlet", "two", "--seeds", "2", *TINY]
     runner.tournament("play", "all", *of("one", "two", "three"), *gauntlet)

@@ -86,7 +86,7 @@ class Table:
             *(row for row in self.summary.order if row.opponents > 1),
             *self.summary.played(),
         ]
-        width = 2 * self.width + 3
+        width = max([2 * self.width + 3, *(len(self.names(row)) for row in rows)])
         count_width = max(4, *(len(str(max(row.pairs.every))) for row in rows))
         won_width = max(5, *(len(record(row.games)) for row in rows))
         outcomes = " ".join(
@@ -99,7 +99,13 @@ class Table:
             counts = " ".join([f"{count:{count_width}}" for count in found.every])
             score = of_score(tuple(found.every), tuple(sorted(found.clusters.items())))
             won = f"{record(games):>{won_width}}  {games.all - games.decided:9}"
-            yield f"{names(row):{width}}  {won}   {counts}  {score}"
+            yield f"{self.names(row):{width}}  {won}   {counts}  {score}"
+
+    def names(self, row: EngineRow | PairingRow) -> str:
+        """Returns the engines of a line. One of an earlier plan may be named as all are."""
+        if isinstance(row, PairingRow):
+            return f"{row.first} - {row.second}"
+        return f"{row.name} - all{' others' if 'all' in self.summary.rows else ''}"
 
     def of_all(self) -> Iterator[str]:
         """Yields what there is of all games together."""
@@ -155,13 +161,6 @@ def of_scored(scored: Scored) -> Iterator[str]:
         yield f"not scored, so that twogtp's verdict counts: {len(scored.unscored)}"
         for game, reason in scored.unscored[:MOST_GROUPS]:
             yield f"  {game}: {reason}"
-
-
-def names(row: EngineRow | PairingRow) -> str:
-    """Returns the engines of a line."""
-    if isinstance(row, PairingRow):
-        return f"{row.first} - {row.second}"
-    return f"{row.name} - all"
 
 
 def points(games: Row) -> str:
