@@ -308,7 +308,9 @@ def test_options_that_a_plan_does_not_keep(
 OF_PLAN = ["--engine", "--seeds", "--gauntlet", "--limit", "--move-limit", "--start-limit"]
 OF_PLAN += ["--clock", "--margin", "--scorer", "--openings", "--shuffle-openings", "--direct"]
 OF_TEST = ["--sprt", "--between", "--alpha", "--beta"]
-OF_PLAY = [*OF_PLAN, "--jobs", "--pin", "--again", "--task", "--time-left", *OF_TEST, "--dry-run"]
+OF_HOOKS = ["--on-end", "--on-failure"]
+OF_PLAY = [*OF_PLAN, "--jobs", "--pin", "--again", "--task", "--time-left", *OF_HOOKS, *OF_TEST]
+OF_PLAY.append("--dry-run")
 OF_LOSSES = ["--abandoned"] * 3 + ["--late"]
 OF_TALLY = [*OF_LOSSES, "--no-winner", "--no-winner", *OF_TEST, "--by", "--json"]
 OF_GAMES = ["0", "1", "2", "69", "130, 143", "141"]
