@@ -63,7 +63,7 @@ ABANDONED_LOSES = {
     "4_b_a": GAMES["4_b_a"]._replace(winner="black", sgf="B+T", pgn="0-1"),
 }
 NOTES = {
-    "1_a_b": "1 black D4 1.5\n2 white E5 0.25\n3 black pass 0.5\n",
+    "1_a_b": "began 2026-11-30T23:59:58Z\n1 black D4 1.5\n2 white E5 0.25\n3 black pass 0.5\n",
     "1_b_a": "",
     "4_b_a": "1 black E5 1.0\n2 white late 5.0: 5 genmove w\n",
 }

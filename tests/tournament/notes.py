@@ -18,8 +18,9 @@ def without_seconds(line: str) -> str:
 
 
 def notes_of(runner: Runner, game: str, folder: str = "all") -> List[str]:
-    """Returns the lines of the notes of a game."""
-    return (runner.folder / folder / "notes" / game).read_text().splitlines()
+    """Returns the lines of the notes of a game, without when it began."""
+    lines = (runner.folder / folder / "notes" / game).read_text().splitlines()
+    return [line for line in lines if not line.startswith("began ")]
 
 
 def record_of(notes: List[str]) -> List[str]:

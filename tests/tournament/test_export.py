@@ -17,7 +17,8 @@ from .written import write_plan, write_result
 
 HEAD = (
     "game,black,white,seed,opening,verdict,winner,moves,black_seconds,white_seconds,"
-    "host,black_version,white_version,twogtp_version,rule"
+    "host,black_version,white_version,twogtp_version,rule,"
+    "date,size,komi,handicap,ruleset,clock,move_limit"
 )
 
 
@@ -62,9 +63,17 @@ def test_csv(written: Runner) -> None:
         "white_version": "",
         "twogtp_version": "1.0",
         "rule": "abandoned, late or unfit: half",
+        "date": "2026-11-30T23:59:58Z",
+        "size": "9",
+        "komi": "5.0",
+        "handicap": "0",
+        "ruleset": "Chinese",
+        "clock": "",
+        "move_limit": "",
     }
-    # notes of another result say nothing
+    # notes of another result say nothing, and those of an earlier version have no date
     assert (rows[1]["host"], rows[1]["black_seconds"]) == ("", "")
+    assert (rows[7]["host"], rows[7]["date"]) == ("far", "")
 
 
 def test_losers(written: Runner) -> None:
@@ -108,9 +117,11 @@ def test_sgf(written: Runner) -> None:
     assert {name: result_of(records[f"{name}.sgf"]) for name in results} == results
     for name, game in GAMES.items():
         assert re.findall(r";([BW]\[\w*\])", records[f"{name}.sgf"]) == game.points
-    head = "FF[4]GM[1]CA[UTF-8]AP[twogtp:1.0]SZ[9]KM[5]PB[a]PW[b]RE[B+5]GN[1_a_b]"
-    head += "GC[abandoned or late: loses; unfit: out]C[B+5]"
-    assert records["1_a_b.sgf"] == f"(;{head}\n;B[df];W[ee];B[])\n"
+    head = "FF[4]GM[1]CA[UTF-8]AP[twogtp:1.0]SZ[9]RU[Chinese]KM[5]DT[2026-11-30]"
+    head += "PB[a]PW[b]RE[B+5]GN[1_a_b]"
+    head += 'GC[abandoned or late: loses; unfit: out\nBlack: A, "the" 1.2]C[B+5]'
+    moves = ";B[df]C[1.5 s];W[ee]C[0.25 s];B[]C[0.5 s]"
+    assert records["1_a_b.sgf"] == f"(;{head}\n{moves})\n"
 
 
 def test_points_of_a_large_board_in_sgf(runner: Runner) -> None:
@@ -162,11 +173,13 @@ def test_pgn(written: Runner) -> None:
     assert games[0] == {
         "Event": "all",
         "Site": "far",
-        "Date": "????.??.??",
+        "Date": "2026.11.30",
         "Round": "1",
         "White": "b",
         "Black": "a",
         "Result": "0-1",
+        "UTCDate": "2026.11.30",
+        "UTCTime": "23:59:58",
         "Termination": "normal",
         "Verdict": "B+5",
         "Moves": "3",
@@ -175,7 +188,11 @@ def test_pgn(written: Runner) -> None:
         "BlackVersion": 'A, \\"the\\" 1.2',
         "ControllerVersion": "1.0",
         "Rule": "abandoned, late or unfit: half",
+        "Size": "9",
+        "Komi": "5",
+        "Ruleset": "Chinese",
     }
+    assert games[7]["Date"] == "????.??.??" and "UTCDate" not in games[7]
 
 
 def test_results_of_a_server(runner: Runner) -> None:
@@ -208,8 +225,8 @@ def test_openings(runner: Runner) -> None:
     runner.tournament("export", "all", "--sgf", "records")
     records = runner.files("records")
     for row in rows:
-        moves = records[f"{row['game']}.sgf"].split("\n")[1]
-        assert moves.startswith({1: ";B[cc];W[db]", 2: ";B[bd];W"}[row["opening"]])
+        _, _, moves = records[f"{row['game']}.sgf"].partition("\n;")
+        assert moves.startswith({1: "B[cc];W[db]", 2: "B[bd];W"}[row["opening"]])
 
 
 # ---- what can't be read or written

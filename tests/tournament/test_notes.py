@@ -5,6 +5,7 @@ import json
 import os
 import re
 import subprocess
+import time
 from typing import Dict, List, Sequence, Tuple
 
 import pytest
@@ -138,6 +139,15 @@ def test_notes_have_the_moves_and_times(small: Played) -> None:
         assert colours == [("black", "white")[at % 2] for at in range(len(moves))]
         check_times(thought, moves)
         assert end == f"result: {line.removeprefix('game 1: ')}"
+
+
+def test_notes_have_the_time_of_the_beginning(runner: Runner) -> None:
+    before = time.gmtime()
+    runner.tournament("play", "all", *engines(one="gtp_engine", two="gtp_engine"), *ONE_GAME)
+    after = time.gmtime()
+    for game, notes in runner.files("all/notes").items():
+        line = notes.splitlines()[1]
+        assert before <= time.strptime(line, "began %Y-%m-%dT%H:%M:%SZ") <= after, game
 
 
 def test_move_that_is_refused_is_taken_back(runner: Runner) -> None:

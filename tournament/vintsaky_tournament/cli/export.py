@@ -30,7 +30,7 @@ def do_export(arguments: Arguments) -> int:
     if sgf_folder is not None:
         from ..report.sgf import write_records
 
-        write_records(records, plan, sgf_folder)
+        write_records(records, sgf_folder)
     elif arguments.has("--pgn"):
         from ..report.pgn import as_pgn
 

@@ -286,8 +286,11 @@ Writes the results of FOLDER in the plan's order, for other programs.
     + """
 The version of an engine is what it said in its last trial on the game's
 machine. If the engine was replaced or tried again after the game, that can
-differ from what played. No format says when a game was played: the time of its
-file in FOLDER/games does.
+differ from what played. The date is when the game began, in UTC, as its notes
+have it; notes of earlier versions don't, and with --direct there are none.
+twogtp's rules are Chinese: area scoring, simple ko, no suicide, and no points
+for handicap stones. The move times of the notes are comments in SGF, with what
+the clock had left as BL, OB, WL and OW.
 
 status: 0  the games that have a result are written
         1  something can't be read or written; no file of --sgf is left

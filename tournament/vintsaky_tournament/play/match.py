@@ -5,6 +5,7 @@ import marshal
 import os
 import re
 import sys
+import time
 from typing import TYPE_CHECKING, Sequence
 
 from .. import output
@@ -116,7 +117,8 @@ class NotesFile:
     def __init__(self, name: str, places: Places, match: Match) -> None:
         game = f"{places.at}/game.{os.getpid()}"
         self.file, self.place = places.new_notes()
-        output.write(self.file, f"{name} on {os.uname().nodename}\n")
+        began = time.strftime(notes.TIME, time.gmtime())
+        output.write(self.file, f"{name} on {os.uname().nodename}\nbegan {began}\n")
         held, self.holds = os.pipe()  # whose other end only this process holds
         with open(game, "wb") as file:
             file.write(match.file(name, self.place, held))

@@ -4,7 +4,9 @@ from __future__ import annotations
 from typing import Iterable, Iterator
 
 from ..model import FORFEITS, Ending, Way
+from ..relay.clock import read_clock, written
 from ..stats.records import Record
+from .times import time_control
 
 TERMINATIONS = {  # of PGN; where a way isn't among them, the game is unterminated
     Way.WON: "normal",
@@ -21,27 +23,42 @@ def as_pgn(records: Iterable[Record], event: str) -> Iterator[str]:
     tags."""
     for record in records:
         points = points_of(record.ending)
-        tags = {
-            "Event": event,
-            "Site": record.host or "?",
-            "Date": "????.??.??",
-            "Round": record.seed,
-            "White": record.white,
-            "Black": record.black,
-            "Result": points,
-            "Termination": termination(record.ending),
-            "Verdict": record.verdict,
-            "Moves": record.moves,
-            "Opening": record.opening,
-            "BlackSeconds": record.black_seconds,
-            "WhiteSeconds": record.white_seconds,
-            "BlackVersion": record.black_version,
-            "WhiteVersion": record.white_version,
-            "ControllerVersion": record.twogtp_version,
-            "Rule": record.rule,
-        }
+        tags = tags_of(record, event, points)
         lines = [f'[{name} "{quoted(value)}"]' for name, value in tags.items() if value is not None]
         yield "\n".join([*lines, "", points, ""])
+
+
+def tags_of(record: Record, event: str, points: str) -> dict[str, object]:
+    """Returns the tags of a game; None for what isn't known."""
+    date, _, time = (record.date or "").replace("-", ".").removesuffix("Z").partition("T")
+    return {
+        "Event": event,
+        "Site": record.host or "?",
+        "Date": date or "????.??.??",
+        "Round": record.seed,
+        "White": record.white,
+        "Black": record.black,
+        "Result": points,
+        "UTCDate": date or None,
+        "UTCTime": time or None,
+        "TimeControl": time_control(read_clock(record.clock)) if record.clock else None,
+        "Termination": termination(record.ending),
+        "Verdict": record.verdict,
+        "Moves": record.moves,
+        "Opening": record.opening,
+        "BlackSeconds": record.black_seconds,
+        "WhiteSeconds": record.white_seconds,
+        "BlackVersion": record.black_version,
+        "WhiteVersion": record.white_version,
+        "ControllerVersion": record.twogtp_version,
+        "Rule": record.rule,
+        "Size": record.size,
+        "Komi": written(record.komi),
+        "Handicap": record.handicap or None,
+        "Ruleset": record.ruleset,
+        "Clock": record.clock,
+        "MoveLimit": record.move_limit,
+    }
 
 
 def points_of(ending: Ending) -> str:

@@ -3,62 +3,95 @@ from __future__ import annotations
 
 import contextlib
 import os
-from typing import Iterable, Sequence
+from typing import Iterator
 
 from .. import sgf
 from ..config.rules import PASS, column_and_row, handicap_points
 from ..config.setup import Setup
-from ..model import Ending, Plan, Side, Way
+from ..model import Ending, Move, Plan, Side, Way
 from ..output import Mistake
-from ..stats.records import Record
-
+from ..relay.clock import read_clock, written
+from ..stats.records import Record, Records
+from ..store.notes import bytes_for
+from .times import MoveTime, overtime, times_of
 
 LETTERS = {Side.BLACK: "B", Side.WHITE: "W"}
+UNTIMED = MoveTime(None, None, None)
 WON_BY = {Way.RESIGNED: "R", Way.LATE: "T", Way.TIME: "T"}  # without points, and else by forfeit
 
 
-class Board:
-    """The board of a plan: its size, its komi, and its handicap stones."""
+class Sheet:
+    """What all records of a plan have: its board with handicap stones, and its clock."""
 
-    def __init__(self, options: Sequence[str]) -> None:
-        setup = Setup(options)
-        self.size, self.handicap, self.komi = setup.rows(), setup.stones(), setup.komi
+    def __init__(self, plan: Plan, folder: str) -> None:
+        setup, self.folder = Setup(plan.options), folder
+        self.plan, self.size, self.handicap = plan, setup.rows(), setup.stones()
         self.stones = handicap_points(self.size, self.handicap)
-
-    def first(self) -> Side:
-        """Returns the side that moves first."""
-        return Side.WHITE if self.stones else Side.BLACK
+        self.first = Side.WHITE if self.stones else Side.BLACK
+        self.clock = read_clock(plan.clock) if plan.clock else None
 
     def text(self, record: Record) -> str:
         """Returns the record of a game."""
-        moves = record.result.moves(self.first())
-        nodes = ({LETTERS[side]: self.vertex(vertex)} for side, vertex in moves)
-        return sgf.write([self.root(record), *nodes])
+        moves = record.result.moves(self.first)
+        times = self.times(record) or [UNTIMED] * len(moves)
+        return sgf.write([self.root(record), *map(self.node, moves, times)])
+
+    def times(self, record: Record) -> list[MoveTime]:
+        """Returns the times of a game's moves; none where they aren't known."""
+        data = bytes_for(self.folder, record.game, record.result.line)
+        return [] if data is None else times_of(data.decode("latin-1"), self.plan, record.result)
 
     def root(self, record: Record) -> dict[str, sgf.Values]:
         """Returns the properties of a game's root."""
-        version = record.twogtp_version
+        version, clock = record.twogtp_version, self.clock
         properties = {
             "FF": "4",
             "GM": "1",
             "CA": "UTF-8",
             "AP": version and sgf.composed_value("twogtp", version),
             "SZ": str(self.size),
-            "KM": self.komi,
+            "RU": record.ruleset,
+            "KM": written(record.komi),
             "HA": str(self.handicap) if self.handicap else None,
+            "TM": clock and written(clock.main),
+            "OT": clock and overtime(clock),
+            "DT": record.date and record.date[: len("2026-12-01")],
             "PB": record.black,
             "PW": record.white,
             "RE": result(record.verdict, record.ending),
             "GN": record.game,
-            "GC": sgf.text_value(record.rule),
+            "GC": sgf.text_value("\n".join(comments(record))),
             "C": sgf.text_value(record.verdict),
             "AB": [sgf.point_value(stone, self.size) for stone in self.stones],
         }
         return {name: value for name, value in properties.items() if value}
 
-    def vertex(self, vertex: str) -> str:
-        """Returns the value of a move."""
-        return sgf.point_value(None if vertex == PASS else column_and_row(vertex), self.size)
+    def node(self, move: Move, time: MoveTime) -> dict[str, sgf.Values]:
+        """Returns the properties of a move: itself, what its side's clock had left, and, since SGF
+        has no property for it, a comment with the seconds that it took."""
+        letter, vertex = LETTERS[move.side], move.vertex
+        point = None if vertex == PASS else column_and_row(vertex)
+        properties = {letter: sgf.point_value(point, self.size)}
+        if time.left:
+            properties[f"{letter}L"] = time.left.seconds
+            if time.left.stones is not None:
+                properties[f"O{letter}"] = str(time.left.stones)
+        if time.seconds:
+            used = f", cpu {time.processor} s" if time.processor else ""
+            properties["C"] = f"{time.seconds} s{used}"
+        return {**properties}
+
+
+def comments(record: Record) -> Iterator[str]:
+    """Yields what SGF has no properties for: what a failure counts, the engines' versions, and the
+    limit of a move."""
+    yield record.rule
+    if record.black_version:
+        yield f"Black: {record.black_version}"
+    if record.white_version:
+        yield f"White: {record.white_version}"
+    if record.move_limit:
+        yield f"Limit of a move: {written(record.move_limit)} s"
 
 
 def result(verdict: str, ending: Ending) -> str:
@@ -71,10 +104,10 @@ def result(verdict: str, ending: Ending) -> str:
     return f"{LETTERS[ending.winner]}+{won}"
 
 
-def write_records(records: Iterable[Record], plan: Plan, folder: str) -> None:
+def write_records(records: Records, folder: str) -> None:
     """Writes a file for each game into a folder, which is new or empty. Where one can't be written,
     none is left."""
-    is_there, board = os.path.isdir(folder), Board(plan.options)
+    is_there, sheet = os.path.isdir(folder), Sheet(records.plan, records.folder)
     places: list[str] = []
     if is_there and os.listdir(folder):
         raise Mistake(f"{folder} isn't empty: name a new directory for --sgf")
@@ -83,7 +116,7 @@ def write_records(records: Iterable[Record], plan: Plan, folder: str) -> None:
         for record in records:
             places.append(f"{folder}/{record.game}.sgf")
             with open(places[-1], "x", encoding="utf-8") as file:
-                file.write(board.text(record))
+                file.write(sheet.text(record))
     except BaseException as error:
         for place in places:
             with contextlib.suppress(OSError):

@@ -4,6 +4,7 @@ from __future__ import annotations
 from typing import Iterator, NamedTuple, Sequence
 
 from ..cluster import Share
+from ..config.setup import Setup
 from ..model import Ending, Plan, Result
 from ..store import notes, results
 from ..store.versions import versions_of
@@ -11,6 +12,7 @@ from .endings import Endings, Rules
 
 ALL = Share(1, 1)
 LONGEST_HOST = 64  # characters
+RULESET = "Chinese"  # of twogtp: area scoring, simple ko, no suicide
 
 
 class Record(NamedTuple):
@@ -31,6 +33,13 @@ class Record(NamedTuple):
     white_version: str | None
     twogtp_version: str | None
     rule: str  # what a game counts in which a side failed
+    date: str | None  # when it began, in UTC
+    size: int
+    komi: float
+    handicap: int
+    ruleset: str
+    clock: str | None
+    move_limit: float | None  # seconds
     ending: Ending
     result: Result
 
@@ -43,10 +52,29 @@ class Record(NamedTuple):
 FIELDS = Record._fields[:-2]
 
 
+class Terms(NamedTuple):
+    """What all games of a plan are played by."""
+
+    size: int
+    komi: float
+    handicap: int
+    ruleset: str
+    clock: str | None
+    move_limit: float | None
+
+    @classmethod
+    def of_plan(cls, plan: Plan) -> Terms:
+        """Returns those of a plan."""
+        setup, limit = Setup(plan.options), plan.move_limit
+        komi, seconds = setup.half_points() / 2, float(limit) if limit else None
+        return cls(setup.rows(), komi, setup.stones(), RULESET, plan.clock, seconds)
+
+
 class FromNotes(NamedTuple):
-    """What the notes of a game say: the machine, and how long both sides thought."""
+    """What the notes of a game say: the machine, when it began, and how long both sides thought."""
 
     host: str | None = None
+    date: str | None = None
     black_seconds: float | None = None
     white_seconds: float | None = None
 
@@ -57,6 +85,7 @@ class Records:
     def __init__(self, plan: Plan, folder: str, rules: Rules) -> None:
         self.plan, self.folder, self.games = plan, folder, plan.games()
         self.endings, self.rule = Endings(plan, folder, rules), rules.text()
+        self.terms = Terms.of_plan(plan)
         self.versions: dict[str | None, dict[str, str | None]] = {None: {}}  # on each machine
         self.without = self.games.count  # those that have no result
 
@@ -91,6 +120,8 @@ class Records:
             white_version=versions.get(f"engine {white}"),
             twogtp_version=versions.get("twogtp"),
             rule=self.rule,
+            date=noted.date,
+            **self.terms._asdict(),
             ending=ending,
             result=result,
         )
@@ -101,7 +132,8 @@ class Records:
         found = found or notes.noted_in(self.folder, name, result.line)
         if found is None:
             return FromNotes()
-        return FromNotes(found.host if is_host(found.host) else None, *found.thought)
+        host = found.host if is_host(found.host) else None
+        return FromNotes(host, found.date or None, *found.thought)
 
     def versions_on(self, host: str | None) -> dict[str, str | None]:
         """Returns the versions of the programs on a machine, as they were tried there."""

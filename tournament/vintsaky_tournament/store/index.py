@@ -37,6 +37,7 @@ class Line(NamedTuple):
     result: str
     moves: str
     host: str
+    date: str
     numbers: str  # of the notes
 
 
@@ -55,10 +56,10 @@ def add(
     """Adds the line of a game, with what its files were when they were read. Nothing is said where
     it can't be written."""
     file, found = result
-    parts = [game, rule.mark, mark_of(file), NOTHING, found.line, found.vertices, "", ""]
+    parts = [game, rule.mark, mark_of(file), NOTHING, found.line, found.vertices, "", "", ""]
     if notes:
         noted = notes[1].noted()
-        parts[3], parts[6:] = mark_of(notes[0]), [noted.host, numbers_of(noted)]
+        parts[3], parts[6:] = mark_of(notes[0]), [noted.host, noted.date, numbers_of(noted)]
     text = "\t".join(parts).encode("latin-1")
     with contextlib.suppress(OSError):
         os.makedirs(f"{folder}/index", exist_ok=True)
@@ -72,7 +73,7 @@ def add(
 
 def numbers_of(noted: Noted) -> str:
     """Returns the numbers of notes as a line has them: Black's and White's of each kind."""
-    return " ".join(str(number) for both in noted[1:] for number in both)
+    return " ".join(str(number) for both in noted[2:] for number in both)
 
 
 def noted_of(line: Line) -> Noted:
@@ -81,7 +82,8 @@ def noted_of(line: Line) -> Noted:
     seconds, counts = map(float, words[:SECONDS]), map(int, words[SECONDS:])
     thought, moved, longest = zip(seconds, seconds)
     moves, late, out_of_time, ignored = zip(counts, counts)
-    return Noted(line.host, thought, moved, longest, moves, late, out_of_time, ignored)
+    times = (thought, moved, longest)
+    return Noted(line.host, line.date, *times, moves, late, out_of_time, ignored)
 
 
 class Index:

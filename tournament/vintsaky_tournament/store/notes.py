@@ -1,7 +1,8 @@
 """The notes of a game, which `between` writes: the moves, their times, and how an engine ended.
 
-FOLDER/notes/GAME has a line for the game, and then one for each note, which begins with the number
-of the next move and the colour:
+FOLDER/notes/GAME has a line for the game, such as `1_one_two on HOST`, one for when it began, such
+as `began 2026-12-01T09:24:25Z`, which those of earlier versions lack, and then one for each note,
+which begins with the number of the next move and the colour:
 
     0 black started 0.021               the seconds to the first answer
     1 black D4 opening                  a move of the opening
@@ -31,6 +32,11 @@ TOO_LATE = ("late", "out-of-time")
 UNANSWERED = (*TOO_LATE, "ended", "waited", "not")  # what the notes say where no answer follows
 NO_MOVE = (*UNANSWERED, "failed", "no-vertex")  # and where the answer is no move
 NOTHING_ASKED = "nothing was asked"
+TIME = "%Y-%m-%dT%H:%M:%SZ"  # of the line that says when a game began, in UTC
+BEGAN = re.compile(
+    "began ([0-9]{4}-(?:0[1-9]|1[0-2])-(?:0[1-9]|[12][0-9]|3[01])"
+    "T(?:[01][0-9]|2[0-3]):[0-5][0-9]:[0-6][0-9]Z)\n"
+)
 SECONDS = re.compile(r"([0-9]{1,15}(?:\.[0-9]{1,9})?):?")
 
 
@@ -45,6 +51,7 @@ class Noted(NamedTuple):
     """What tallies and exports need of the notes of a game, of Black and of White."""
 
     host: str  # on which it was played
+    date: str  # when it began; empty where that isn't noted
     thought: tuple[float, float]  # seconds
     moved: tuple[float, float]  # seconds of all moves that were answered, and of the longest one
     longest: tuple[float, float]
@@ -59,6 +66,7 @@ class Notes:
 
     def __init__(self, text: str) -> None:
         self.host = text.partition("\n")[0].partition(" on ")[2]
+        self.date = date_of(text)
         self.started = [False, False]  # whether any command was answered
         self.late, self.out_of_time, self.ignored = [0, 0], [0, 0], [0, 0]  # as Noted has them
         self.thought = [0.0, 0.0]
@@ -105,6 +113,7 @@ class Notes:
         (black, white), moved, longest = self.thought, self.moved, self.longest
         return Noted(
             self.host,
+            self.date,
             (round(black, 3), round(white, 3)),
             (round(moved[0], 3), round(moved[1], 3)),
             (longest[0], longest[1]),
@@ -132,6 +141,13 @@ class Notes:
             return text
         when = "before anything was asked" if command == NOTHING_ASKED else f"at '{command}'"
         return f"it ended {when}: {ending}"
+
+
+def date_of(text: str) -> str:
+    """Returns when a game began, by the second line of its notes; an empty text where that isn't
+    noted."""
+    found = BEGAN.match(text, text.find("\n") + 1)
+    return found[1] if found else ""
 
 
 def waited_for(awaited: Awaited) -> str:
