@@ -97,3 +97,13 @@ def test_engine_that_never_played_is_replaced_without_a_word(runner: Runner) -> 
     runner.script("one.sh", SCRIPT)
     assert runner.tournament("game", "all", "1_one_two")[::2] == (0, "")
     assert files(runner) == [row(place, "1_one_two")]
+
+
+def test_log_that_an_engine_writes_is_no_part_of_it(runner: Runner) -> None:
+    place = runner.script("one.sh", 'echo started >> "$2"\n' + SCRIPT)
+    assert play(runner, 2, "./one.sh %s own.log") == []
+    assert play(runner, 3, "./one.sh %s own.log") == []
+    assert (runner.folder / "own.log").read_text().count("started") == 7  # its trial, and six games
+    assert "replaced" not in runner.tally("all").output
+    known = [(digest, Path(path).name) for _, _, digest, _, path in files(runner)]
+    assert known == [("written", "own.log"), (row(place, "")[2], "one.sh")]

@@ -8,7 +8,7 @@ from typing import Iterator
 
 from .. import output
 from ..model import Result
-from ..store.engine_files import Replaced, Seen, add, seen_in
+from ..store.engine_files import BY_ENGINE, Replaced, Seen, add, seen_in
 from . import programs
 from .game import ENDING
 from .match import Match
@@ -33,8 +33,10 @@ class EngineFiles:
         self.playing[game] = []
         for engine in engines:
             if engine not in self.of_engine:
-                self.of_engine[engine] = list(self.files_of(engine))
                 self.read(engine)
+                paths = self.files_of(engine)
+                own = {path for path, seen in self.written[engine].items() if seen.is_by_engine}
+                self.of_engine[engine] = [path for path in paths if path not in own]
                 self.latest[engine] = dict(self.written[engine])
             for path in self.of_engine[engine]:
                 with contextlib.suppress(OSError):
@@ -49,6 +51,23 @@ class EngineFiles:
             path = os.path.join(self.match.folder, word).replace("/./", "/")
             if word and "%s" not in word and "\t" not in path and os.path.isfile(path):
                 yield path
+
+    def states_of(self, engine: str) -> dict[str, os.stat_result]:
+        """Returns how an engine's files are now, by path."""
+        states = {}
+        for path in self.files_of(engine):
+            with contextlib.suppress(OSError):
+                states[path] = os.stat(path)
+        return states
+
+    def note_written(self, engine: str, before: dict[str, os.stat_result]) -> None:
+        """Writes down which files have changed since an engine's trial began: it writes them
+        itself, as a log, so they are no part of it."""
+        for path, found in self.states_of(engine).items():
+            seen = Seen(engine, str(found.st_size), str(found.st_mtime_ns), BY_ENGINE, "", path)
+            if path not in before or not seen.is_like(before[path]):
+                with contextlib.suppress(OSError):
+                    add(self.place, seen)
 
     def read(self, engine: str) -> None:
         """Reads what is written down of an engine's files by games on this machine."""

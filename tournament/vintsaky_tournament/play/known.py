@@ -179,7 +179,10 @@ class KnownEngines:
             return is_started
         from .trials import try_engine  # which isn't needed where all engines are known
 
-        return try_engine(self, name)
+        files = self.run.files.states_of(name)
+        is_started = try_engine(self, name)
+        self.run.files.note_written(name, files)
+        return is_started
 
     def lock(self, file: int) -> bool:
         """Waits until no other process tries engines here. Returns False where the run is stopped.

@@ -2,7 +2,8 @@
 
 Each line is `ENGINE<tab>SIZE<tab>TIME<tab>SHA256<tab>GAME<tab>FILE`, TIME in nanoseconds: the file
 was so before that game, in which no side was abandoned. A later line of the same engine and file
-says that it was changed, or replaced if the sum differs.
+says that it was changed, or replaced if the sum differs. Of a file that the engine itself writes,
+such as a log, a line has `written` for the sum and no game.
 """
 from __future__ import annotations
 
@@ -12,6 +13,7 @@ from typing import Iterator, NamedTuple
 from .. import output
 
 NAME = "files"
+BY_ENGINE = "written"  # for a sum: the engine itself writes the file
 
 
 class Seen(NamedTuple):
@@ -23,6 +25,11 @@ class Seen(NamedTuple):
     digest: str
     game: str
     path: str
+
+    @property
+    def is_by_engine(self) -> bool:
+        """Returns whether the engine itself writes the file."""
+        return self.digest == BY_ENGINE
 
     def is_same(self, other: Seen) -> bool:
         """Returns whether another line says the same of the file."""
@@ -80,6 +87,8 @@ def replaced_in(folder: str) -> list[Replaced]:
         digests: dict[str, str] = {}  # by the engine and the path
         for seen in seen_in(f"{tried}/{host}"):
             key = f"{seen.engine}\t{seen.path}"
+            if seen.is_by_engine:
+                continue
             if digests.setdefault(key, seen.digest) != seen.digest:
                 found.append(Replaced(seen.engine, seen.path, host, seen.game))
             digests[key] = seen.digest
