@@ -11,9 +11,9 @@ import pytest
 from .runner import SCRIPTS, TWO, Runner
 
 STANDARD = set(
-    "__future__ array bisect collections contextlib copy csv ctypes difflib enum errno fcntl"
-    " functools gc hashlib importlib io itertools json marshal math os random re select shlex"
-    " shutil signal sys tempfile time types typing zlib".split()
+    "__future__ array base64 bisect collections contextlib copy csv ctypes difflib enum errno fcntl"
+    " functools gc gzip hashlib html http importlib io itertools json marshal math os random re"
+    " select shlex shutil signal sys tempfile threading time types typing urllib zlib".split()
 )
 # what is in C of a module, which is imported alone where it is there
 IN_C = {"_ctypes", "_signal"}

@@ -1,0 +1,45 @@
+"""The moves of all games for the page's script, which unpacks a chunk of games where one of them is
+opened: a byte a move, or two on large boards, and a byte for the seconds of each."""
+from __future__ import annotations
+
+import base64
+import math
+import zlib
+from functools import lru_cache
+from typing import TYPE_CHECKING, Iterator, Sequence
+
+if TYPE_CHECKING:
+    from .games import Game
+
+CHUNK = 128  # games
+FIRST, GROWTH = 0.001, 1.07  # seconds of level 1, and how much longer each next level is
+MOST_LEVEL = 255
+SMALL = 255  # numbers of moves that a byte holds
+
+
+@lru_cache(maxsize=65536)  # the notes have milliseconds, so most are the same
+def level_of(seconds: float) -> int:
+    """Returns seconds as a number from 1 to 255, which is right to some 3 percent; 0 stands for
+    seconds that aren't known."""
+    if seconds <= FIRST:
+        return 1
+    return min(MOST_LEVEL, 1 + round(math.log(seconds / FIRST, GROWTH)))
+
+
+def seconds_of(level: int) -> float:
+    """Returns the seconds that a level stands for."""
+    return float(FIRST * GROWTH ** (level - 1))
+
+
+def chunks_of(games: Sequence[Game], size: int) -> Iterator[str]:
+    """Yields chunks of games: the low bytes of all moves, their high ones on large boards, and the
+    levels of their seconds, deflated, as base64."""
+    for begin in range(0, len(games), CHUNK):
+        some = games[begin : begin + CHUNK]
+        moves = [move for game in some for move in game.moves]
+        planes = [bytes(move & 255 for move in moves)]
+        if size * size > SMALL:
+            planes.append(bytes(move >> 8 for move in moves))
+        planes += [game.noted.levels or bytes(game.length) for game in some]
+        packer = zlib.compressobj(9, zlib.DEFLATED, -15)
+        yield base64.b64encode(packer.compress(b"".join(planes)) + packer.flush()).decode()
