@@ -152,6 +152,7 @@ MISSING: dict[str, Callable[[], Optional[str]]] = {
     "cc": lacks_command("cc"),
     "cargo": lacks_cargo,
     "gnugo": lacks_command("/usr/games/gnugo"),
+    "chromium": lacks_command("chromium"),
     "root": lacks_root,
 }
 
