@@ -40,8 +40,8 @@ MISTAKES = {
     "game all 1_one_one": f"all/plan has no game '1_one_one': {NO_GAME}",
     "game all 01_one_two": f"all/plan has no game '01_one_two': {NO_GAME}",
     "paly x": (
-        "there is no command 'paly': write tournament play, plan, check, list, game, export, verify"
-        " or score"
+        "there is no command 'paly': write tournament play, plan, check, list, game, export, "
+        "verify, score, page, watch or show"
     ),
     "play x --engine all=cat --engine b=cat": (
         "all is what a tally names all others together: give it another name"
@@ -310,9 +310,10 @@ OF_PLAN += ["--clock", "--margin", "--scorer", "--openings", "--shuffle-openings
 OF_TEST = ["--sprt", "--between", "--alpha", "--beta"]
 OF_HOOKS = ["--on-end", "--on-failure"]
 OF_PLAY = [*OF_PLAN, "--jobs", "--pin", "--again", "--task", "--time-left", *OF_HOOKS, *OF_TEST]
-OF_PLAY.append("--dry-run")
+OF_PLAY += ["--page", "--dry-run"]
 OF_LOSSES = ["--abandoned"] * 3 + ["--late"]
 OF_TALLY = [*OF_LOSSES, "--no-winner", "--no-winner", *OF_TEST, "--by", "--json"]
+OF_PAGE = ["--without-moves", *OF_LOSSES, "--no-winner", *OF_TEST]
 OF_GAMES = ["0", "1", "2", "69", "130, 143", "141"]
 FORMS = ["--pgn", "--csv", "--jsonl", "--sgf"]
 
@@ -329,6 +330,9 @@ FORMS = ["--pgn", "--csv", "--jsonl", "--sgf"]
         ("tournament export", [*FORMS, *OF_LOSSES], ["0", "1", "2", "141"]),
         ("tournament verify", [], ["0", "1", "2", "141"]),
         ("tournament score", [], ["0", "1", "2", "141"]),
+        ("tournament page", OF_PAGE, ["0", "1", "2", "141"]),
+        ("tournament show", ["--size", "--ko"], ["0", "1", "2", "141"]),
+        ("tournament watch", ["--port"], ["2"]),
         ("tally", OF_TALLY, ["0", "1", "2", "3", "4", "141"]),
     ],
 )
@@ -340,7 +344,8 @@ def test_help(command: str, options: List[str], statuses: List[str], planned: Ru
     if command == "tournament":
         assert done.output.startswith("usage: tournament play FOLDER")
     else:
-        assert done.output.startswith(f"usage: {command} FOLDER")
+        place = "FILE" if command == "tournament show" else "FOLDER"
+        assert done.output.startswith(f"usage: {command} {place}")
         assert planned.run(*words, "x", "--help") == done
     assert re.findall(r"^  (--\w[\w-]*)", done.output, re.MULTILINE) == options
     found = re.findall(r"^(?:status:| {7}) (\d+(?:, \d+)?)  ", done.output, re.MULTILINE)

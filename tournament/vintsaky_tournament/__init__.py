@@ -7,7 +7,7 @@ play        the run, the process of a game, the trials of engines
 relay       what is started with each engine: it imports `processes` alone
 judge       a replay of each game by an engine, and what it says of the result
 stats       what results say: endings, pairs, scores, a test, a summary, records
-report      what is printed of that: text, JSON, tables, PGN, SGF
+report      what is printed of that: text, JSON, tables, PGN, SGF; and the page for browsers
 cluster     the share of a task, and the time that a job has left
 cli         a module for each command
 processes   how a program is started, and how all processes below are ended

@@ -19,6 +19,8 @@ from .sprt import asked_of
 
 if TYPE_CHECKING:
     from ..cluster import Share
+    from ..play.page_writer import PageWriter
+    from ..stats.sprt import TestRequest
     from ..config.openings import Opening
 
 # what it leaves out
@@ -135,6 +137,7 @@ def do_play(arguments: Arguments) -> int:
     asked = asked_of(arguments, plan)
     if arguments.has("--dry-run"):
         return dry_run(prepared, task, arguments.has("--again"))
+    writer = page_writer(arguments, folder.place, asked)
     run = Run(plan, folder.place, prepared.twogtp)
     if arguments.has("--pin"):
         run.pin(jobs)
@@ -144,8 +147,34 @@ def do_play(arguments: Arguments) -> int:
     if status is None:
         write(prepared)
         status = play.all(arguments.has("--again"), asked)
+        if writer:
+            writer.end()
     hooks.end(status)
     return status
+
+
+def page_writer(arguments: Arguments, folder: str, asked: TestRequest | None) -> PageWriter | None:
+    """Returns what writes the page while games are played, if that is asked for."""
+    place = arguments.last("--page", page_place)
+    if place is None:
+        return None
+    if arguments.has("--task"):
+        raise Mistake(
+            "--page shows all games, and --task plays some of them: give only one of the two; "
+            "tournament page writes it at any time"
+        )
+    from ..play.page_writer import PageWriter  # which isn't needed elsewhere
+    from ..report.page.view import Asked
+    from ..stats.endings import Rules
+
+    return PageWriter(Asked(folder, Rules(), test=asked), place)
+
+
+def page_place(name: str, place: str) -> str:
+    """Returns the file that an option names, whose directory has to be there."""
+    if os.path.isdir(place) or not os.path.isdir(os.path.dirname(os.path.abspath(place))):
+        raise Mistake(f"{name} needs a FILE in a directory that is there, and not '{place}'")
+    return place
 
 
 def dry_run(prepared: Prepared, task: Share | None, again: bool) -> int:

@@ -67,6 +67,27 @@ def score(arguments: Arguments) -> int:
     return do_score(arguments)
 
 
+def page(arguments: Arguments) -> int:
+    """Writes the page of a tournament, and returns the status."""
+    from .page import do_page
+
+    return do_page(arguments)
+
+
+def show(arguments: Arguments) -> int:
+    """Writes the page of a file with games, and returns the status."""
+    from .show import do_show
+
+    return do_show(arguments)
+
+
+def watch(arguments: Arguments) -> int:
+    """Serves the page of a tournament, and returns the status."""
+    from .watch import do_watch
+
+    return do_watch(arguments)
+
+
 # each imports what it needs alone, since modules are compiled at each start
 COMMANDS: dict[str, Callable[[Arguments], int]] = {
     "play": play,
@@ -77,6 +98,9 @@ COMMANDS: dict[str, Callable[[Arguments], int]] = {
     "export": export,
     "verify": verify,
     "score": score,
+    "page": page,
+    "watch": watch,
+    "show": show,
 }
 
 

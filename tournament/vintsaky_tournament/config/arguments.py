@@ -36,6 +36,7 @@ OF_PLAY: Options = {  # which no plan keeps
     "--on-end": Option("CMD", f"--on-end {MAIL}"),
     "--on-failure": Option("CMD", f"--on-failure {MAIL}"),
     **OF_TEST,
+    "--page": Option("a FILE", "--page night.html"),
     "--dry-run": None,
 }
 OF_PLAN: Options = {
@@ -73,6 +74,25 @@ OF_EXPORT: Options = {
     "--jsonl": None,
     "--sgf": Option("a new FOLDER", "--sgf records"),
 }
+OF_PAGE: Options = {
+    **OF_LOSSES,
+    "--no-winner": OF_TALLY["--no-winner"],
+    **OF_TEST,
+    "--without-moves": None,
+    "-o": Option("a FILE", "-o night.html"),
+}
+OF_WATCH: Options = {
+    **{name: option for name, option in OF_PAGE.items() if name != "-o"},
+    "--port": Option("a port", "--port 8000"),
+}
+OF_SHOW: Options = {
+    "--size": Option("a size", "--size 9"),
+    "--komi": Option("komi", "--komi=7.5"),
+    "--handicap": Option("a number of stones", "--handicap 2"),
+    "--ko": Option("simple or positional", "--ko simple"),
+    "-o": Option("a FILE", "-o game.html"),
+}
+PLACES = {"game": ["FOLDER", "GAME"], "show": ["FILE"]}  # of commands; else FOLDER
 OPTIONS: Mapping[str, Options] = {
     "play": OF_PLAN,
     "plan": OF_PLAN,
@@ -82,6 +102,9 @@ OPTIONS: Mapping[str, Options] = {
     "export": OF_EXPORT,
     "verify": {},
     "score": {},
+    "page": OF_PAGE,
+    "show": OF_SHOW,
+    "watch": OF_WATCH,
     "tally": OF_TALLY,
 }
 # of twogtp: those with a value, with an example, and the others
@@ -172,7 +195,7 @@ class Arguments:
 
     def check_places(self) -> None:
         """Raises Mistake unless as many places are given as the command has."""
-        wanted = ["FOLDER", "GAME"] if self.command == "game" else ["FOLDER"]
+        wanted = PLACES.get(self.command, ["FOLDER"])
         line = f"{self.program} {' '.join(wanted)}{' ..' if self.has_plan else ''}"
         if len(self.places) < len(wanted):
             raise Mistake(f"{wanted[len(self.places)]} is missing: write {line}")

@@ -13,6 +13,9 @@ usage: tournament play FOLDER --engine NAME=CMD --engine NAME=CMD ..
        tournament export FOLDER --csv       exports results for other programs
        tournament verify FOLDER             replays each game by gtp_engine
        tournament score FOLDER              scores games that --scorer hasn't
+       tournament page FOLDER               writes a page for a browser
+       tournament watch FOLDER              serves it while games are played
+       tournament show FILE                 the same of one game, or of SGF
        tournament COMMAND --help            explains one command
        tournament --version
 """
@@ -121,6 +124,10 @@ MORE_OF_PLAY = (
                      run at once, or pairs wait for a task that hasn't begun
 """
     + BETWEEN
+    + """\
+  --page FILE        write the page of tournament page while games are played,
+                     at most a twentieth of the time, and at the end
+"""
 )
 DRY_RUN = """\
   --dry-run          write and play nothing; print the games without a result,
@@ -173,7 +180,7 @@ usage: tournament play FOLDER --engine NAME=CMD --engine NAME=CMD ..
            [--start-limit SECONDS] [--clock CLOCK] [--margin SECONDS]
            [--scorer CMD] [--openings FILE] [--shuffle-openings N] [--direct]
            [--jobs N] [--pin] [--again] [--task K/T] [--time-left TIME]
-           [--dry-run] [--on-end CMD] [--on-failure CMD]
+           [--dry-run] [--on-end CMD] [--on-failure CMD] [--page FILE]
            [--sprt ELO0 ELO1 [--between NAME NAME] [--alpha N] [--beta N]]
            [-- OPTION ..]
        tournament play FOLDER ..            if FOLDER has a plan
@@ -324,6 +331,65 @@ or why there is none.
 status: 0  all of these games are scored
         1  the scorer failed, or nothing can be written
         2  usage error
+        141  nobody reads what it prints
+""",
+    "page": """\
+usage: tournament page FOLDER [-o FILE] [--without-moves]
+           [--abandoned half|out|loses] [--late half|out|loses]
+           [--no-winner half|out]
+           [--sprt ELO0 ELO1 [--between NAME NAME] [--alpha N] [--beta N]]
+
+Writes one HTML file that shows FOLDER in a browser, without a network or a
+server: what failed and why, ranking, crosstable, scores over time, endings,
+lengths and seconds, and all games with their boards. Its numbers are those of
+tally with the same options. Without a script its tables can still be read.
+
+  -o FILE            the file [FOLDER/page.html]
+  --without-moves    leave the boards out, for very many games
+"""
+    + LOSSES
+    + """\
+  --no-winner half|out
+  --sprt ELO0 ELO1   as for tally: see tally --help
+"""
+    + BETWEEN
+    + """
+status: 0  the page is written, and each game has a result
+        1  some game has no result, or the page can't be written
+        2  usage error
+        141  nobody reads what it prints
+""",
+    "watch": """\
+usage: tournament watch FOLDER [--port N] and the options of tournament page
+
+Serves the page of FOLDER on http://127.0.0.1:N/, for browsers on this machine
+alone, with small boards of the games in play. It is brought up to date while
+games are played, until Ctrl-C. For a browser elsewhere use
+ssh -L N:127.0.0.1:N.
+
+  --port N           the port [the first from 8000 on that is free]
+
+status: 2  usage error, or no port can be opened
+""",
+    "show": """\
+usage: tournament show FILE [-o PAGE] [--size N] [--komi K] [--handicap N]
+           [--ko simple|positional]
+
+Writes a page that shows the games of FILE in a browser, as tournament page does
+with those of a tournament. FILE is SGF, of which the main line is shown; what
+twogtp --record writes, or a file in FOLDER/games; or GTP commands, such as a
+block of gtp_check, with or without the replies.
+
+  -o PAGE            the page [FILE.html]
+  --size N, --komi K, --handicap N
+                     of the games of twogtp, whose record doesn't have them, and
+                     of commands without boardsize and komi [19, 6.5, 0]
+  --ko RULE          which moves are marked as refused whose replies aren't
+                     there: by simple or by positional ko [simple]
+
+status: 0  the page is written
+        1  FILE can't be read, or the page can't be written
+        2  usage error, or FILE has no game
         141  nobody reads what it prints
 """,
     "tally": """\

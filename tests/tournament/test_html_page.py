@@ -1,0 +1,331 @@
+"""tournament page: its numbers are the tally's, and nothing of others becomes a part of it."""
+from __future__ import annotations
+
+import base64
+import hashlib
+import json
+import os
+import re
+from pathlib import Path
+from typing import Any, Callable, Dict, List, Optional
+
+import pytest
+
+from .hostile import write_hostile
+from .html_page import Page, read
+from .inside import module
+from .runner import Runner
+from .written import (
+    ENDED,
+    EVEN,
+    LOST,
+    WON,
+    pairs_of,
+    write_pairs,
+    write_plan,
+    write_result,
+    write_results,
+)
+
+Write = Callable[[Path], None]
+
+
+def page_of(runner: Runner, *words: str) -> Page:
+    """Returns the page of the tournament `all`."""
+    done = runner.tournament("page", "all", *words)
+    assert (done.output, done.errors) == ("all/page.html\n", "")
+    return read(runner.folder / "all/page.html")
+
+
+# ---- the numbers of the tally
+
+
+def three(folder: Path) -> None:
+    """Writes a tournament of three engines, in which sides fail in each way."""
+    write_plan(folder, "abc", 5)
+    verdicts = ["B+R", "W+R", "0", "limit", "B+F(illegal move)", "abandoned white", "unfit black"]
+    games = [f"{seed}_{sides}" for seed in range(1, 6) for sides in "a_b b_a a_c c_a b_c".split()]
+    found = {game: f"{verdicts[at % 7]} {ENDED}" for at, game in enumerate(games)}
+    write_results(folder, found)
+
+
+def apart(folder: Path) -> None:
+    """Writes a tournament whose engines are in two groups that no games join."""
+    write_plan(folder, "abcd", 3)
+    found = {}
+    for seed, verdicts in enumerate([("B+R", "W+R"), ("B+R", "B+R"), ("W+R", "B+R")], 1):
+        for one, other in (("a", "b"), ("c", "d")):
+            for sides, verdict in zip((f"{one}_{other}", f"{other}_{one}"), verdicts):
+                found[f"{seed}_{sides}"] = f"{verdict} {ENDED}"
+    write_results(folder, found)
+
+
+def repeating(folder: Path) -> None:
+    """Writes pairs of two engines of which some repeat others."""
+    same = [WON._replace(first_moves=f"A{30 + at}", second_moves=f"B{30 + at}") for at in range(3)]
+    write_pairs(folder, [*same, *same, LOST, EVEN, *same])
+
+
+def unplayed(folder: Path) -> None:
+    """Writes a tournament without a game."""
+    write_plan(folder, "abc", 2)
+
+
+WRITTEN: Dict[str, Write] = {
+    "two engines": lambda folder: write_pairs(folder, pairs_of((3, 1, 4, 1, 5)), "ba"),
+    "all won": lambda folder: write_pairs(folder, [WON] * 4),
+    "three engines": three,
+    "two groups": apart,
+    "repeated pairs": repeating,
+    "no game": unplayed,
+}
+RULES = [[], ["--abandoned", "half"], ["--abandoned", "out", "--no-winner", "out"]]
+
+
+def elo(value: Optional[float], infinite: str = "inf") -> str:
+    """Returns a difference in Elo as it is written; None is an infinite one."""
+    return infinite if value is None else f"{round(value):+}"
+
+
+def of_pairs(found: Dict[str, Any]) -> List[str]:
+    """Returns the score of pairs and the difference in Elo, each with its interval."""
+    if found["score"] is None:
+        return []
+    score, (low, high) = found["score"], found["elo_interval"]
+    numbers = [elo(found["elo"], "-inf" if score < 0.5 else "+inf")]
+    numbers.append(f"{elo(low, '-inf')} to {elo(high, '+inf')}")
+    interval = " to ".join(f"{100 * end:.1f}" for end in found["interval"])
+    return [*map(str, found["pairs"]), f"{100 * score:.1f}", interval, *numbers]
+
+
+@pytest.mark.parametrize("rules", RULES, ids=" ".join)
+@pytest.mark.parametrize("write", WRITTEN.values(), ids=WRITTEN)
+def test_numbers_are_those_of_the_tally(write: Write, rules: List[str], runner: Runner) -> None:
+    write(runner.folder / "all")
+    page = page_of(runner, *rules)
+    tally = json.loads(runner.tally("all", "--json", *rules).output)
+    assert f"games{tally['results']} of {tally['games']}" in page.texts["state"]
+    rows = page.rows.get("ranking", [])[1:]
+    engines = {engine["name"]: engine for engine in tally["engines"]}
+    assert sorted(row[1] for row in rows) == sorted(engines if tally["results"] else [])
+    ratings = {each["engine"]: each for each in tally["ratings"]}
+    for row in rows:
+        engine, rating = engines[row[1]], ratings.get(row[1])
+        assert (float(row[5]), int(row[7])) == (engine["points"], engine["won"])
+        if rating:
+            low, high = map(elo, rating["elo_interval"])
+            assert row[2:4] == [elo(rating["elo"]), f"{low} to {high}"]
+            better = rating["better_than_next"]
+            assert row[-1] == ("" if better is None else f"{100 * better:.1f} %")
+        elif len(engines) == 2:
+            assert row[2:4] == of_pairs(engine)[-2:]
+        else:
+            assert row[2:4] == ["-", "-"]
+    assert [row[1] for row in rows][: len(ratings)] == list(ratings)
+    assert [[row[0], *row[3:]] for row in page.rows.get("pairs", []) if " - " in row[0]] == [
+        [" - ".join(pair["engines"]), *of_pairs(pair)] for pair in tally["pairs"] if of_pairs(pair)
+    ]
+    cross = page.rows.get("crosstable", [[]])
+    for pair in tally["pairs"] if rows else []:
+        one, other = pair["engines"]
+        cell = next(row for row in cross if row[0] == one)[cross[0].index(other)]
+        assert cell.startswith(f"{pair['won']}-{pair['lost']}" if pair["games"] else "")
+
+
+def test_two_engines_are_ranked_by_their_pairs(runner: Runner) -> None:
+    write_pairs(runner.folder / "all", pairs_of((10, 20, 40, 30, 20)))
+    ranking = page_of(runner).rows["ranking"]
+    # 0.5625 of the points, and by R 0.5095 to 0.6145, as in test_pairs.py
+    assert [row[1:4] for row in ranking[1:]] == [
+        ["a", "+44", "+7 to +81"],
+        ["b", "-44", "-81 to -7"],
+    ]
+
+
+@pytest.mark.parametrize("count", [30, 104, 150])
+def test_test_is_over_where_the_tally_says(count: int, runner: Runner) -> None:
+    # as in test_page.py: by R it is over at the pair of seed 104
+    write_pairs(runner.folder / "all", ([WON, WON, EVEN] * 50)[:count])
+    options = ["--sprt", "0", "10"]
+    page = page_of(runner, *options)
+    line = runner.tally("all", *options).output.rstrip("\n")
+    assert line in page.texts["test"]
+    assert ("over at seed 104" in page.texts["test"]) == (count >= 104)
+    (counts,) = [row for row in page.rows["test"] if row[0] == "pairs"]
+    assert list(map(int, counts[1:])) == [0, 0, min(count, 104) // 3, 0, sum(map(int, counts[5:]))]
+
+
+def test_course_of_the_score_ends_with_the_numbers_of_the_tally(runner: Runner) -> None:
+    repeating(runner.folder / "all")
+    plan = module("config.plan_file").read_plan(str(runner.folder / "all"))
+    pairs = module("stats.summary").Counts(plan, str(runner.folder / "all")).pairs
+    (pairing,) = pairs.pairings()
+    course = module("report.page.courses").course_of
+    for is_turned in (False, True):
+        counts = pairs.of_two(pairing)
+        counts = counts.turned() if is_turned else counts
+        found = course(pairs, pairing, is_turned)
+        assert [after.pairs for after in found] == list(range(1, 12))
+        assert found[-1][1] == counts.score()
+        assert found[-1][2:] == pytest.approx(counts.interval(), rel=1e-12)
+    # after two pairs, both won, by the expression in test_pairs.py
+    two = course(pairs, pairing, False)[1]
+    assert (two.score, two.high) == (1.0, 1.0)
+    assert two.low == pytest.approx(2.5 / 3 - 1.959963984540054 * (5 / 36 / 2) ** 0.5, rel=1e-12)
+
+
+# ---- games
+
+
+def test_games_are_those_of_the_folder(runner: Runner) -> None:
+    folder = runner.folder / "all"
+    write_plan(folder, "ab", 2, "option --size=5", "option --handicap=2", "option --komi=7")
+    write_result(folder, "1_a_b", "W+5 moves 4 restarts 0 1", "A1 E5 pass pass")
+    write_result(folder, "2_b_a", "B+R moves 1 restarts 0 0", "C3")
+    (folder / "notes").mkdir()
+    (folder / "notes/1_a_b").write_text(
+        "1_a_b on here\n0 white started 0.5\n1 white B2 0.5\n1 white undone\n1 white A1 2.000\n"
+        "2 black E5 opening\n3 white pass 0.25\n4 black pass 1.000 cpu 0.9\n"
+        "thought: black 1.000, white 2.750\nresult: W+5 moves 4 restarts 0 1\n"
+    )
+    page = page_of(runner)
+    data = page.data
+    assert data["engines"] == ["a", "b"] and data["sides"] == [[0, 1], [1, 0]]
+    assert (data["size"], data["komi"], data["handicap"]) == (5, "7", 2)
+    assert data["number"] == [0, 3] and data["count"] == [4, 1]
+    assert [data["verdicts"][at] for at in data["verdict"]] == ["W+5", "B+R"]
+    assert (data["winner"], data["restarts"]) == ([1, 0], {"0": [0, 1]})
+    assert (data["black"], data["white"]) == ([1.0, None], [2.75, None])
+    planes = page.planes()
+    assert list(planes[:5]) == [0, 24, 25, 25, 12]
+    # 2 seconds to some 3 percent, an opening, a quarter, one second, and a game without notes
+    seconds = [level and data["first"] * data["growth"] ** (level - 1) for level in planes[5:]]
+    assert seconds == pytest.approx([2, 0, 0.25, 1, 0], rel=0.035)
+    assert page.rows["games"][1:] == [
+        ["1", "a", "b", "W+5", "4", "1.0", "2.8\n"],
+        ["2", "b", "a", "B+R", "1\n"],
+    ]
+
+
+def test_moves_of_large_boards_have_two_planes(runner: Runner) -> None:
+    folder = runner.folder / "all"
+    write_plan(folder, "ab", 1)
+    write_result(folder, "1_a_b", "B+R moves 3 restarts 0 0", "T19 pass A2")
+    # T19 is the last of 361 points from 0 on, the pass is 361, and A2 is behind the first row
+    assert list(page_of(runner).planes()) == [360 - 256, 361 - 256, 19, 1, 1, 0, 0, 0, 0]
+
+
+def test_scorer_counts(runner: Runner) -> None:
+    folder = runner.folder / "all"
+    write_plan(folder, "ab", 1, "option --size=3", "option --komi=5", "scorer x")
+    moves = "B1 C1 B2 C2 B3 pass pass"
+    write_result(folder, "1_a_b", "W+1 moves 7 restarts 0 0", moves)
+    results, scores = module("store.results"), module("store.scores")
+    plan = module("config.plan_file").read_plan(str(folder))
+    result = results.Rule(plan).read(str(folder / "games/1_a_b"))
+    score = scores.Score("B+4", scores.BY_STONES, ("C1", "C2"))
+    scores.write(str(folder), "1_a_b", "x", result, score)
+    data = page_of(runner).data
+    assert data["verdicts"] == ["B+4"]
+    assert (data["dead"], data["other"]) == ({"0": [2, 5]}, {"0": "W+1"})
+
+
+def test_without_moves(runner: Runner) -> None:
+    write_pairs(runner.folder / "all", [WON, LOST])
+    page = page_of(runner, "--without-moves")
+    assert page.data["moves"] is False and page.data["count"] == [30] * 4
+    assert [found["id"] for found, _ in page.scripts if "type" in found] == ["data"]
+
+
+# ---- failures
+
+
+def test_failures_by_cause(runner: Runner) -> None:
+    folder = runner.folder / "all"
+    write_plan(folder, "ab", 4)
+    forfeit = f"W+F(illegal move) {ENDED}"
+    write_results(folder, {"1_a_b": forfeit, "2_a_b": forfeit, "3_a_b": f"abandoned white {ENDED}"})
+    for name in ("logs", "notes"):
+        (folder / name).mkdir()
+    for game, number in (("1_a_b", 7), ("2_a_b", 99)):
+        (folder / "logs" / game).write_text(f"noise\ntwogtp: game 1: black: at {number} it lied\n")
+    (folder / "notes/3_a_b").write_text(
+        f"3_a_b on x\n9 white late 5.001: 12 genmove w\nresult: abandoned white {ENDED}\n"
+    )
+    (folder / "logs/4_a_b").write_text("noise\ntournament: nobody came\n")
+    done = runner.tournament("page", "all", "-o", "page.html")
+    assert done == (1, "page.html\n", "")
+    page = read(runner.folder / "page.html")
+    text = page.texts["failures"]
+    # both forfeits have one cause, whose numbers differ
+    assert text.count("it lied: 2 games") == 1
+    assert "a F(illegal move): 2 games" in text
+    assert "b late: 1 game" in text and "no answer to '12 genmove w' in 5.001 seconds" in text
+    assert "no result: 1 game" in text and "nobody came" in text
+    links = [element.attributes.get("href") for element in page.elements if element.name == "a"]
+    assert "all/logs/1_a_b" in links and "all/notes/3_a_b" in links
+
+
+# ---- what others write
+
+
+@pytest.fixture
+def hostile(runner: Runner) -> Page:
+    """Returns the page of a tournament that tries to become a part of it."""
+    write_hostile(runner.folder / "all")
+    runner.tournament("page", "all")
+    return read(runner.folder / "all/page.html")
+
+
+def test_nothing_of_others_is_an_element(hostile: Page) -> None:
+    assert len(hostile.own_scripts) == 1 and len(hostile.styles) == 1
+    types = [attributes.get("type") for attributes, _ in hostile.scripts]
+    assert set(types) == {"application/json", "text/plain", None}
+    foreign = {"iframe", "img", "object", "embed", "base", "link", "image", "foreignobject"}
+    assert [element for element in hostile.elements if element.name in foreign] == []
+    assert [
+        (element.name, name)
+        for element in hostile.elements
+        for name, value in element.attributes.items()
+        if name.startswith("on") or name == "style" or "script:" in (value or "")
+    ] == []
+    # and yet it is there to be read
+    assert "<img src=x" in hostile.texts["failures"] and "<img src=x" in hostile.texts["plan"]
+    assert "\\u202e" in hostile.texts["plan"] and "\u202e" not in hostile.text
+
+
+def test_only_the_script_and_the_style_of_the_page_are_let_run(hostile: Page) -> None:
+    (policy,) = (
+        element.attributes["content"] or ""
+        for element in hostile.elements
+        if element.attributes.get("http-equiv") == "Content-Security-Policy"
+    )
+    rules = dict(rule.split(" ", 1) for rule in policy.split("; "))
+
+    def hashed(text: str) -> str:
+        return f"'sha256-{base64.b64encode(hashlib.sha256(text.encode()).digest()).decode()}'"
+
+    assert rules == {
+        "default-src": "'none'",
+        "script-src": hashed(hostile.own_scripts[0]),
+        "style-src": hashed(hostile.styles[0]),
+        "connect-src": "'none'",
+        "base-uri": "'none'",
+        "form-action": "'none'",
+    }
+    # of the network there is only the name of SVG
+    addresses = re.findall(r"\bhttps?://[^\"'\s<]*", hostile.text)
+    assert set(addresses) == {"http://www.w3.org/2000/svg"}
+
+
+# ---- where it is written
+
+
+def test_page_that_cannot_be_written(runner: Runner) -> None:
+    write_pairs(runner.folder / "all", [WON])
+    done = runner.tournament("page", "all", "-o", "none/page.html")
+    assert (done.status, done.output) == (1, "")
+    assert done.errors.startswith("tournament: none/page.html") and "No such file" in done.errors
+    (runner.folder / "there").mkdir()
+    assert runner.tournament("page", "all", "-o", "there").status == 1
+    assert sorted(os.listdir(runner.folder)) == ["all", "there"]

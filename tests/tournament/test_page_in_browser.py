@@ -1,0 +1,229 @@
+"""The page of a tournament in a browser: boards, the table of games, and what mustn't run."""
+from __future__ import annotations
+
+import json
+import re
+from pathlib import Path
+from typing import Any, Dict, Iterator, List, Tuple
+
+import pytest
+
+from .browser import answer, shown, without_policy
+from .hostile import RUNS, write_hostile
+from .runner import Runner, engines
+from .written import write_plan, write_result
+
+pytestmark = [pytest.mark.chromium, pytest.mark.xdist_group("chromium")]
+
+# the last board of each game, its score by area, and its verdict
+BOARDS = """
+const found = {};
+for (const game of games) {
+  const positions = positionsOf(await recordOf(game)), last = positions[positions.length - 1];
+  found[game.name] = [asText(last), scoreOf(last, data.komi), game.verdict, game.kind];
+}
+return found;
+"""
+BOTH = engines(
+    one="gtp_engine --policy random --seed %s", two="gtp_engine --policy random --seed 10%s"
+)
+# of a board its size, its handicap, the rule of ko, and how many moves a game has at most
+SETUPS = {
+    "1x1": (1, 0, "simple", 20),
+    "2x2": (2, 0, "simple", 60),
+    "5x5": (5, 0, "simple", 200),
+    "9x9 with 5 stones": (9, 5, "simple", 200),
+    "13x13": (13, 0, "positional", 300),
+    "19x19 with 7 stones": (19, 7, "simple", 500),
+    "25x25 with 9 stones": (25, 9, "positional", 700),
+}
+
+
+@pytest.fixture(scope="module")
+def played(shared_runner: Runner, request: pytest.FixtureRequest) -> Iterator[Dict[str, Path]]:
+    """Returns the folders of tournaments that were played, with their pages. Each has two games for
+    each of four seeds, or for as many as --count asks for."""
+    found, seeds = {}, str(request.config.getoption("--count") or 4)
+    for name, (size, stones, ko, most) in SETUPS.items():
+        folder = name.replace(" ", "-")
+        board = ["--size", size, "--komi", "6.5", "--handicap", stones, "--max-moves", most]
+        words = [f"{word} --ko {ko}" for word in BOTH]
+        words += ["--seeds", seeds, "--", *map(str, board), "--show"]
+        shared_runner.tournament("play", folder, *words)
+        assert shared_runner.tournament("page", folder).status == 0
+        found[name] = shared_runner.folder / folder
+    yield found
+
+
+def differences(folder: Path, text: str = "") -> List[str]:
+    """Returns the games whose last board, or whose score, isn't that of twogtp."""
+    found: Dict[str, List[str]] = answer(folder / "page.html", BOARDS, text=text)
+    assert len(found) == len(list((folder / "games").iterdir())) >= 8
+    wrong = []
+    for name, (board, score, verdict, kind) in found.items():
+        _, _, last = (folder / "games" / name).read_text().split("\n", 2)
+        if last != f"{board}\n" or kind in ("score", "draw") and score != verdict:
+            wrong.append(name)
+    return wrong
+
+
+@pytest.mark.parametrize("name", SETUPS)
+def test_last_boards_are_those_of_twogtp(name: str, played: Dict[str, Path]) -> None:
+    assert differences(played[name]) == []
+
+
+# rules with a fault each, which games on 5x5 show
+FAULTS = {
+    "one stone a capture": ("of chain.points) points[point] = 0", "of [next]) points[point] = 0"),
+    "no capture below": (
+        "if (at >= size) found.push(at - size)",
+        "if (at > size) found.push(at - size)",
+    ),
+}
+
+
+@pytest.mark.parametrize("fault", FAULTS)
+def test_fault_in_the_rules_would_be_noticed(fault: str, played: Dict[str, Path]) -> None:
+    text = (played["5x5"] / "page.html").read_text()
+    right, wrong = FAULTS[fault]
+    assert text.count(right) == 1
+    assert differences(played["5x5"], text.replace(right, wrong)) != []
+
+
+# ---- use
+
+
+@pytest.fixture(scope="module")
+def written(shared_runner: Runner) -> Path:
+    """Returns the page of three games that were written by hand."""
+    folder = shared_runner.folder / "written"
+    write_plan(folder, "ab", 2, "option --size=3", "option --komi=5")
+    # Black takes the corner at A1 by its third move, after which White may not play there
+    write_result(folder, "1_a_b", "B+R moves 6 restarts 0 0", "B1 A1 B2 C3 A2 pass")
+    write_result(folder, "1_b_a", "W+F(illegal move) moves 2 restarts 0 0", "A1 A2")
+    write_result(folder, "2_a_b", "limit moves 4 restarts 1 0", "A1 A2 A3 B1")
+    shared_runner.tournament("page", "written")
+    return folder / "page.html"
+
+
+# what is done, and what is then returned; and what that is, by hand
+USES: Dict[str, Tuple[str, Any]] = {
+    "all games": ("return verdicts()", ["B+R", "W+F(illegal move)", "limit"]),
+    "a verdict": ('set("by-text", "f("); return verdicts()', ["W+F(illegal move)"]),
+    "moves": ('set("by-least", "3"); return verdicts()', ["B+R", "limit"]),
+    "an end": ('set("by-kind", "failed"); return verdicts()', ["W+F(illegal move)"]),
+    "a colour": (
+        'set("by-engine", "1"); set("by-colour", "0"); return verdicts()',
+        ["W+F(illegal move)"],
+    ),
+    "sorted": ("sort(); return verdicts()", ["W+F(illegal move)", "limit", "B+R"]),
+    "sorted the other way": (
+        "sort(); sort(); return [order(), ...verdicts()]",
+        ["descending", "B+R", "limit", "W+F(illegal move)"],
+    ),
+    "keys": (
+        'await open("1_a_b"); ["Home", "ArrowRight", "ArrowRight"].forEach(press); return said()',
+        "2 of 6: White A1",
+    ),
+    "capture": (
+        'await open("1_a_b", 5);'
+        ' return [said(), byId("captured0").textContent, all("#board .stone").length]',
+        ["5 of 6: Black A2, captures 1", "1 captured", 4],
+    ),
+    "end": ('await open("1_a_b"); return said()', "6 of 6: White pass. The end: B+R"),
+    "next game": (
+        'await open("1_a_b"); press("]"); const name = byId("viewer-name");'
+        ' while (name.textContent.startsWith("a - b")) await pause(); return name.textContent',
+        "b - a, seed 1",
+    ),
+    "numbers": (
+        'await open("1_a_b", 2); press("n"); return all("#board .count").map(it => it.textContent)',
+        ["2", "1"],
+    ),
+    # Black has A1, A2, B1 and B2, and White C3; what is between them is nobody's, and komi is 5
+    "area": (
+        'await open("1_a_b", 5); press("a"); return said()',
+        "5 of 6: Black A2, captures 1. By area: W+2",
+    ),
+    "text": (
+        'return asText(positionsOf(await recordOf(byName.get("1_a_b"))).pop())',
+        ". . O 3\nX X . 2\n. X . 1\nA B C\ncaptures B 1 W 0\n",
+    ),
+    "SGF": (
+        'return sgfOf(await recordOf(byName.get("2_a_b"))).replace("\\n", "")',
+        "(;FF[4]GM[1]CA[UTF-8]AP[Vintsaky]SZ[3]KM[5]PB[a]PW[b]RE[Void]GN[2_a_b]C[limit, 4 moves]"
+        ";B[ac];W[ab];B[aa];W[bc])\n",
+    ),
+}
+ALL = """
+const all = selector => [...document.querySelectorAll(selector)], found = {};
+const verdicts = () => all("#list tbody tr").map(row => row.children[3].textContent);
+const sort = () => click(document.querySelector("[data-key=count]"));
+const order = () => document.querySelector("[aria-sort]").getAttribute("aria-sort");
+const open = (name, move) => openGame(byName.get(name), move);
+const said = () => byId("comment").textContent;
+for (const [name, use] of Object.entries({%s})) {
+  byId("filter").reset();
+  Object.assign(table, {key: "seed", isDown: false});
+  change();
+  for (const id of ["numbers", "area"]) byId(id).checked = false;
+  found[name] = await use();
+  byId("viewer").close();
+}
+return found;
+"""
+
+
+def test_uses(written: Path) -> None:
+    uses = ",".join(f"{json.dumps(name)}: async () => {{{use}}}" for name, (use, _) in USES.items())
+    expected = {name: result for name, (_, result) in USES.items()}
+    assert answer(written, ALL % uses) == expected
+
+
+AT_LAST = 'while (!byId("comment").textContent) await pause(); return byId("comment").textContent'
+
+
+@pytest.mark.parametrize(
+    "fragment, text",
+    [
+        ("#game=1_b_a&move=1", "1 of 2: Black A1"),
+        ("#game=2_a_b", "4 of 4: White B1, captures 1. The end: limit"),
+    ],
+)
+def test_address_opens_a_position(fragment: str, text: str, written: Path) -> None:
+    assert answer(written, AT_LAST, fragment) == text
+
+
+def test_address_of_failures_filters(written: Path) -> None:
+    fragment = "#engine=b&kind=forfeit&blamed=1"
+    script = 'return byId("found").textContent + byId("list").querySelector("tbody").textContent'
+    found = answer(written, script, fragment)
+    assert found.startswith("1 of 3 games") and "W+F(illegal move)" in found
+
+
+# ---- what mustn't run
+
+PLANTED = f"<main><img src=x onerror={RUNS}><script>{RUNS}</script>"
+
+
+@pytest.fixture(scope="module")
+def hostile(shared_runner: Runner) -> Path:
+    """Returns the page of a hostile tournament."""
+    write_hostile(shared_runner.folder / "hostile")
+    shared_runner.tournament("page", "hostile")
+    return shared_runner.folder / "hostile/page.html"
+
+
+@pytest.mark.parametrize("has_policy", [True, False], ids=["with policy", "without policy"])
+@pytest.mark.parametrize("is_planted", [False, True], ids=["as it is", "with a hole"])
+def test_nothing_of_others_runs(is_planted: bool, has_policy: bool, hostile: Path) -> None:
+    text = hostile.read_text(encoding="utf-8")
+    text = text if has_policy else without_policy(text)
+    assert text.count("<main>") == 1
+    place = hostile.with_name("tried.html")
+    place.write_text(text.replace("<main>", PLANTED) if is_planted else text, encoding="utf-8")
+    page = shown(place)
+    assert '<table><thead><tr><th scope="col"' in page, "the page's own script has run"
+    has_run = re.search(r'<html[^>]*\shi="1"', page) is not None
+    # without the policy a hole is seen, so that this test notices one
+    assert has_run == (is_planted and not has_policy)
