@@ -11,8 +11,8 @@ from .runner import RANDOM, Runner, engines
 
 tomllib: Any = pytest.importorskip("tomllib")
 
-# all characters up to the Greek ones, some that are rare, and one beyond the first 65536
-CHARACTERS = "".join(map(chr, (*range(0x380), 0x2028, 0xFEFF, 0xFFFD, 0x1F600)))
+# all characters but the first one up to the Greek ones, rare ones, and one beyond the first 65536
+CHARACTERS = "".join(map(chr, (*range(1, 0x380), 0x2028, 0xFEFF, 0xFFFD, 0x1F600)))
 BYTES = b"\xff/\xe9\xa0' \"\\\xc3\xa9"  # of these the last two alone are UTF-8
 
 
@@ -147,6 +147,9 @@ CHANGES = {  # of one line, and the message
     ('"/"', '""'): "line 2 of all/plan: folder is empty",
     ('"/"', '"\\ud800"'): "line 2 of all/plan: there is no character \\ud800",
     ('"/"', '"\\e"'): "line 2 of all/plan: there is no character \\e",
+    ('"/"', '"\\u0000"'): (
+        "line 2 of all/plan: folder has a zero byte, which no program can be given"
+    ),
     ('"/"', '"""/"""'): ('line 2 of all/plan: what is behind the value isn\'t understood: "/"""'),
     ('folder = "/"\n', ""): "all/plan lacks folder, the directory in which the engines start",
     ('folder = "/"', 'folder = "/"\ndirect = true\nmargin = 1'): (

@@ -199,6 +199,9 @@ MISTAKES = {
     f"{SMALL}[engines.'c d']\ncommand = 'x'": (
         "an engine's name may have letters, digits, . + and -, at most 40 of them, unlike 'c d'"
     ),
+    f'{SMALL}options = "\\u0000"': (
+        "the command of two has a zero byte, which no program can be given"
+    ),
     "seeds = 3": "it has no engines: write [engines.NAME], and below it the key command",
     f"seeds = [3]\n{SMALL[10:]}": "seeds needs a number, and not [3]",
     f"direct = 1\n{SMALL}": "direct needs true or false, and not 1",

@@ -100,6 +100,8 @@ class Plan:
             raise Mistake(f"{name} has no command")
         if "\n" in command:
             raise Mistake(f"the command of {name} has more than one line")
+        if "\0" in command:
+            raise Mistake(f"the command of {name} has a zero byte, which no program can be given")
         if name in self.engines:
             raise Mistake(f"two engines are named {name}: give each its own name")
         self.engines[name] = Engine(name, command)

@@ -47,6 +47,8 @@ def text(key: str, value: Value) -> str:
     found = text_of(value)
     if found is None:
         raise Mistake(f"{key} needs a text in quotes, and not {shown(value)}")
+    if "\0" in found:
+        raise Mistake(f"{key} has a zero byte, which no program can be given")
     return found
 
 

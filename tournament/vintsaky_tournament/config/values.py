@@ -27,7 +27,7 @@ def seconds(option: str, text: str) -> str:
 
 def command(option: str, text: str) -> str:
     """Returns the command of an option, which can be split into words."""
-    if "\n" in text:
+    if "\n" in text or "\0" in text:
         raise Mistake(f"{option} needs a command of one line")
     Engine("the scorer", text).words(is_direct=False)
     return text
