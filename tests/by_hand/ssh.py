@@ -2,8 +2,8 @@
 
     python3 -m pytest tests/by_hand/ssh.py
 
-They need root, and Debian's packages openssh-server, openssh-client and parallel, and take some
-seconds. The games have to be those of an undisturbed run, whatever is done to a machine.
+They need root, and Debian's packages openssh-server, openssh-client and parallel, and take a
+minute. The games have to be those of an undisturbed run, whatever is done to a machine.
 """
 from __future__ import annotations
 
@@ -18,7 +18,7 @@ import pytest
 from tests.shared.processes import wait_until
 from tests.tournament.runner import SCRIPTS, Runner, kill
 
-from .conftest import PLAN
+from .conftest import PLAN, SLOW
 from .slurm import free_ports
 
 SSHD = "/usr/sbin/sshd"
@@ -48,6 +48,7 @@ Host *
   StrictHostKeyChecking no
   LogLevel ERROR
   BatchMode yes
+  ServerAliveCountMax 1
 """
 PLAY = """\
 tournament list {folder}/far | parallel --will-cite --retries 5 --sshloginfile machines \\
@@ -106,15 +107,16 @@ class Machines:
             lambda: all(self.runner.run("ssh", it, "true").status == 0 for it in self.servers)
         )
 
-    def cut(self, name: str) -> None:
-        """Ends a machine's server and its connections, and nothing that was started over them."""
+    def send(self, name: str, number: signal.Signals) -> None:
+        """Sends a signal to a machine's server and its connections, and to nothing that was started
+        over them."""
         pids = [self.servers[name].pid]
         for pid in pids:
             children = Path(f"/proc/{pid}/task/{pid}/children").read_text().split()
             names = {child: Path(f"/proc/{child}/comm").read_text() for child in children}
             pids += [int(child) for child, name in names.items() if name == "sshd\n"]
         for pid in pids:
-            kill(pid, signal.SIGKILL)
+            kill(pid, number)
 
 
 @pytest.fixture
@@ -159,9 +161,27 @@ def test_other_machine_plays_the_rest_where_connections_are_lost(
 ) -> None:
     def cut() -> None:
         machines.runner.wait_until(lambda: len(machines.runner.games("far")) > 1)
-        machines.cut("one")
+        machines.send("one", signal.SIGKILL)
 
     assert check_games(machines, undisturbed, cut) == ["# 2/one", "# 2/gone", "2/two"]
+
+
+def test_other_machine_plays_the_rest_where_one_freezes(
+    machines: Machines, undisturbed: dict[str, str]
+) -> None:
+    """The first message that isn't answered within fifteen seconds ends the connections."""
+    machines.runner.script("slow", f"echo $1 >> starts\n{SLOW}")
+
+    def freeze() -> None:
+        machines.runner.wait_until(lambda: len(machines.runner.games("far")) > 1)
+        machines.send("one", signal.SIGSTOP)
+
+    try:
+        assert check_games(machines, undisturbed, freeze) == ["# 2/one", "# 2/gone", "2/two"]
+    finally:
+        machines.send("one", signal.SIGKILL)
+    # both engines of 16 games, none of which is played twice, and two trials
+    assert len((machines.runner.folder / "starts").read_text().split()) == 2 * 16 + 2
 
 
 def test_machine_without_an_engine_leaves(machines: Machines, undisturbed: dict[str, str]) -> None:
