@@ -294,8 +294,8 @@ def test_job_for_each_node(cluster: Cluster, undisturbed: dict[str, str]) -> Non
     played = [re.findall(r"^[0-9]+ of 16: (.*?):", it, re.MULTILINE) for it in outputs]
     assert all(played)
     assert sorted(sum(played, [])) == sorted(undisturbed)
-    # both engines of 16 games, and two trials
-    assert len((runner.folder / "starts").read_text().split()) == 2 * 16 + 2
+    # both engines of 16 games, and two trials on each node
+    assert len((runner.folder / "starts").read_text().split()) == 2 * 16 + 2 * 2
 
 
 def test_job_of_a_killed_node_waits_for_it(cluster: Cluster, undisturbed: dict[str, str]) -> None:
