@@ -92,7 +92,7 @@ def test_mistake(name: str, runner: Runner) -> None:
 
 def test_sgf(runner: Runner) -> None:
     text = (
-        "(;GM[1]SZ[3]KM[0.5]AB[ac]PB[one]PW[two]RE[W+R]GN[night];W[bb]C[a <b>];B[]"
+        "(;GM[1]SZ[3]KM[0.5]AB[ac]PB[one]PW[two]RE[W+R]GN[night];W[bb]C[a </script><script>b];B[]"
         ";AE[ac]AW[ca](;B[cc])(;B[aa]))"
     )
     (game,) = games_of(runner, text)
@@ -100,11 +100,13 @@ def test_sgf(runner: Runner) -> None:
     # ac is A1, which is 0; Black has a stone more, so White is first
     assert (game["black"], game["first"], game["komi"]) == ([0], 2, "0.5")
     first, second, third, fourth = game["steps"]
-    assert first == {"side": 2, "move": 4, "text": "a <b>"}
+    assert first == {"side": 2, "move": 4, "text": "a </script><script>b"}
     assert second == {"side": 1, "move": 9}
     assert third["board"] == {"size": 3, "first": 1, "black": [], "white": [4, 8]}
     assert fourth == {"side": 1, "move": 2}
-    assert "a &lt;b&gt;" in (runner.folder / "file.html").read_text()
+    # a comment ends no script, neither as data nor in the table of moves
+    page = read(runner.folder / "file.html")
+    assert len(page.own_scripts) == 1 and page.rows[""][1][2] == "a </script><script>b"
 
 
 # ---- conversations
