@@ -85,7 +85,7 @@ class Records:
     def __init__(self, plan: Plan, folder: str, rules: Rules) -> None:
         self.plan, self.folder, self.games = plan, folder, plan.games()
         self.endings, self.rule = Endings(plan, folder, rules), rules.text()
-        self.terms = Terms.of_plan(plan)
+        self.terms = Terms.of_plan(plan)._asdict()
         self.versions: dict[str | None, dict[str, str | None]] = {None: {}}  # on each machine
         self.without = self.games.count  # those that have no result
 
@@ -121,7 +121,7 @@ class Records:
             twogtp_version=versions.get("twogtp"),
             rule=self.rule,
             date=noted.date,
-            **self.terms._asdict(),
+            **self.terms,
             ending=ending,
             result=result,
         )
