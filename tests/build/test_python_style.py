@@ -36,6 +36,7 @@ SCRIPTS = [path for path in FILES if path not in MODULES]
 # tests give it what its types refuse.
 PACKAGES = ["bench", "cargo", "library/declaring", "library/python/vintsaky", "tests", "tournament"]
 OTHERS = ["library/python/examples", "library/python/tests"]
+HANGS = 3600  # seconds: a slow machine reads all files for minutes
 
 
 def command_of(tool: str, version: str = "") -> str:
@@ -60,12 +61,13 @@ def test_all_modules_are_in_packages() -> None:
 def test_black_would_change_nothing() -> None:
     # later versions lay some things out in another way
     black = command_of("black", "black, 23.")
-    done = run([black, "--check", "--quiet", "--diff", *FILES], cwd=TOP)
+    command = [black, "--check", "--quiet", "--diff", *FILES]
+    done = run(command, cwd=TOP, timeout=HANGS)
     assert (done.returncode, done.stdout + done.stderr) == (0, "")
 
 
 def test_flake8_finds_nothing() -> None:
-    done = run([command_of("flake8"), *FILES], cwd=TOP)
+    done = run([command_of("flake8"), *FILES], cwd=TOP, timeout=HANGS)
     assert (done.returncode, done.stdout + done.stderr) == (0, "")
 
 
@@ -80,5 +82,6 @@ def cache(tmp_path_factory: pytest.TempPathFactory) -> Path:
 def test_mypy_finds_nothing(path: str, cache: Path) -> None:
     files = [path] if path in SCRIPTS else [it for it in MODULES if it.startswith(f"{path}/")]
     environment = {**os.environ, "MYPYPATH": str((TOP / path).parent)}
-    done = run([command_of("mypy"), "--cache-dir", cache, *files], cwd=TOP, env=environment)
+    command = [command_of("mypy"), "--cache-dir", cache, *files]
+    done = run(command, cwd=TOP, env=environment, timeout=HANGS)
     assert done.returncode == 0, done.stdout + done.stderr
