@@ -58,7 +58,8 @@ MISTAKES = {
     "play all --scorer ''": "the scorer has no command",
     "play all --scorer ./nobody": "there is no ./nobody, which is to score the games",
     "verify": "FOLDER is missing: write tournament verify FOLDER",
-    "list x": "there is no x/plan: tournament plan makes it",
+    "list x": "there is no x/plan: tournament play makes it when it has tried the engines, "
+    "and tournament plan at once",
     "list all more": "'more' is one argument too many: write tournament list FOLDER",
     "list all --al": "list has no option --al: is it --all?",
     "list all --jobs 2": (

@@ -111,12 +111,12 @@ def test_numbers_are_those_of_the_tally(write: Write, rules: List[str], runner: 
     ratings = {each["engine"]: each for each in tally["ratings"]}
     for row in rows:
         engine, rating = engines[row[1]], ratings.get(row[1])
-        assert (float(row[5]), int(row[7])) == (engine["points"], engine["won"])
+        assert (float(row[6]), int(row[8])) == (engine["points"], engine["won"])
         if rating:
             low, high = map(elo, rating["elo_interval"])
             assert row[2:4] == [elo(rating["elo"]), f"{low} to {high}"]
             better = rating["better_than_next"]
-            assert row[-1] == ("" if better is None else f"{100 * better:.1f} %")
+            assert row[4] == ("" if better is None else f"{100 * better:.1f} %")
         elif len(engines) == 2:
             assert row[2:4] == of_pairs(engine)[-2:]
         else:

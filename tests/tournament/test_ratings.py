@@ -118,6 +118,14 @@ def test_there_are_no_ratings(names: str, verdicts: Dict[str, str], runner: Runn
     assert "better than the next" not in runner.tally("all").output
 
 
+def test_worth_of_black_where_no_pair_tells_of_it(runner: Runner) -> None:
+    won = {f"1_{one}_{other}": "B+R" for one, other in ("ab", "ac", "bc")}
+    lost = {f"1_{other}_{one}": "W+R" for one, other in ("ab", "ac", "bc")}
+    write_verdicts(runner, "abc", {**won, **lost})  # who is better won with both colours
+    assert json.loads(runner.tally("all", "--json").output)["black"] is None
+    assert "Black's advantage" not in runner.tally("all").output
+
+
 def test_too_many_engines(runner: Runner) -> None:
     names = [f"e{number}" for number in range(201)]
     write_plan(runner.folder / "all", names, 1)

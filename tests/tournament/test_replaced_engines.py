@@ -40,7 +40,8 @@ def row(place: Path, game: str) -> List[str]:
 def replaced(place: Path, game: str) -> str:
     """Returns what is said of a file that was replaced before a game."""
     host = os.uname().nodename
-    return f"one: {place} was replaced on {host}: another one plays from {game} on"
+    where = f"one: {place} was replaced on {host}"
+    return f"{where}: another one played {game} and what began later"
 
 
 @pytest.mark.parametrize("words", [[], ["--direct"]], ids=["with between", "direct"])
@@ -85,7 +86,7 @@ def test_engine_that_is_replaced_in_a_run(runner: Runner) -> None:
     runner.script("one.sh", f'[ "$1" != 2 ] || mv other.sh one.sh\n{SCRIPT}')
     runner.script("other.sh", OTHER)
     (line,) = play(runner, 3)
-    assert line.endswith("another one plays from 2_two_one on")
+    assert line.endswith("another one played 2_two_one and what began later")
 
 
 def test_engine_that_never_played_is_replaced_without_a_word(runner: Runner) -> None:

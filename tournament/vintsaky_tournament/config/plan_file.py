@@ -123,7 +123,8 @@ def read_text(place: str) -> bytes:
         with open(place, "rb") as file:
             return file.read()
     except FileNotFoundError:
-        raise Mistake(f"there is no {place}: tournament plan makes it") from None
+        why = "tournament play makes it when it has tried the engines, and tournament plan at once"
+        raise Mistake(f"there is no {place}: {why}") from None
     except NotADirectoryError:
         file_name = os.path.dirname(place)
         raise Mistake(

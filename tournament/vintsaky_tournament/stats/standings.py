@@ -53,7 +53,9 @@ class Standings:
                 ]
             )
         if every:
-            self.black = advantage(groups_of(engines, every)[0], every)
+            black = advantage(groups_of(engines, every)[0], every)
+            # an interval of no width is no knowledge: no pair was won by a colour
+            self.black = black if black.high - black.low > 1 else None
 
 
 class Leader(NamedTuple):

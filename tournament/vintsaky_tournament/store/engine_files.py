@@ -42,7 +42,8 @@ class Seen(NamedTuple):
 
 
 class Replaced(NamedTuple):
-    """A file of an engine that was replaced on a machine: another one plays from a game on."""
+    """A file of an engine that was replaced on a machine: another one played a game, and what began
+    after it."""
 
     engine: str
     path: str
@@ -52,7 +53,8 @@ class Replaced(NamedTuple):
     @property
     def text(self) -> str:
         """Returns what is to be said of it."""
-        return f"{self.path} was replaced on {self.host}: another one plays from {self.game} on"
+        where = f"{self.path} was replaced on {self.host}"
+        return f"{where}: another one played {self.game} and what began later"
 
 
 def seen_in(place: str) -> Iterator[Seen]:

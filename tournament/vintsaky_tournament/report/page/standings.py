@@ -44,12 +44,12 @@ def ranking(view: View) -> list[Child]:
     parts = {part.name: part for part in by_colour(view.counts)}
     rows = [rank(place, rated, bars, parts) for place, rated in enumerate(view.ranking, 1)]
     heads: list[Child] = [
-        *("", "engine", "Elo", "95 % interval"),
+        *("", "engine", "Elo", "95 % interval", "better than the next"),
         tag("th", bars.axis(), scope="col", class_="picture"),
         *("points", "games", "won", "lost", "no winner", "won of decided, %"),
-        *("score as Black, %", "as White, %", "better than the next"),
+        *("score as Black, %", "as White, %"),
     ]
-    numbers = (0, 2, 3, 5, 6, 7, 8, 9, 10, 11, 12, 13)
+    numbers = (0, 2, 3, 4, 6, 7, 8, 9, 10, 11, 12, 13)
     return [
         table(heads, rows, "engines, the best one first", "ranking", numbers),
         tag("p", explained(view), class_="note"),
@@ -66,11 +66,11 @@ def rank(place: int, rated: Rated, bars: charts.Ratings, parts: Mapping[str, Par
         tag("th", by_engine(name, name), scope="row"),
         whole(rating.elo) if rating else "-",
         to(whole(rating.low), whole(rating.high)) if rating else "-",
+        better,
         tag("td", bars.bar(rating) if rating else None, class_="picture"),
         *(points(games), games.all, games.won, games.lost, games.all - games.decided),
         percent(games).strip(),
         *(f"{100 * part.score:.1f}" if part else "-" for part in colours),
-        better,
     ]
 
 
