@@ -82,6 +82,16 @@ def test_replaced_network(option: str, runner: Runner) -> None:
     assert line == f"tournament: {replaced(place, '2_one_two')}"
 
 
+def test_program_of_an_engine_with_an_environment(runner: Runner) -> None:
+    (runner.folder / "bin").mkdir()
+    place = runner.script("bin/one.sh", SCRIPT)
+    runner.environment["PATH"] = f"{place.parent}:{runner.environment['PATH']}"
+    play(runner, 1, "env LEVEL=1 one.sh %s")  # as a plan in a file has it
+    runner.script("bin/one.sh", OTHER)
+    (line,) = play(runner, 2, "env LEVEL=1 one.sh %s")
+    assert line == f"tournament: {replaced(place, '2_one_two')}"
+
+
 def test_engine_that_is_replaced_in_a_run(runner: Runner) -> None:
     runner.script("one.sh", f'[ "$1" != 2 ] || mv other.sh one.sh\n{SCRIPT}')
     runner.script("other.sh", OTHER)

@@ -44,11 +44,12 @@ class EngineFiles:
 
     def files_of(self, engine: str) -> Iterator[str]:
         """Yields the paths of an engine's files. A path that has the seed isn't among them."""
-        first, *others = self.match.commands[engine]
-        program = "" if "%s" in first else programs.find(first, self.match.folder)
-        words = [program or "", *others, *(word.partition("=")[2] for word in others)]
+        command, folder = self.match.commands[engine], self.match.folder
+        started = [programs.find(word, folder) or "" for word in programs_of(command)]
+        others = command[1:]
+        words = [*started, *others, *(word.partition("=")[2] for word in others)]
         for word in dict.fromkeys(words):
-            path = os.path.join(self.match.folder, word).replace("/./", "/")
+            path = os.path.join(folder, word).replace("/./", "/")
             if word and "%s" not in word and "\t" not in path and os.path.isfile(path):
                 yield path
 
@@ -103,6 +104,14 @@ class EngineFiles:
                 with contextlib.suppress(OSError):
                     add(self.place, seen)
             written[seen.path] = seen
+
+
+def programs_of(command: list[str]) -> list[str]:
+    """Returns the words that name a program: the first one, and behind `env`, which a plan in a
+    file puts before the command of an engine with an environment, the one that env starts."""
+    behind = [word for word in command[1:] if "=" not in word and not word.startswith("-")]
+    words = [*command[:1], *(behind[:1] if command[0] == "env" else ())]
+    return [word for word in words if "%s" not in word]
 
 
 def digest_of(path: str) -> str | None:
