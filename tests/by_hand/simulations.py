@@ -3,14 +3,13 @@
 
 usage: tests/by_hand/simulations.py errors COUNT        how often tests err, of so many each
        tests/by_hand/simulations.py year FOLDER SEEDS   what the tally finds of 40 engines
-       tests/by_hand/simulations.py ratings FOLDER      what the R of docs/tournaments.md finds
+       tests/by_hand/simulations.py ratings FOLDER      what R's BradleyTerry2 finds
 
 20000 tests of each kind take an hour. 641 seeds are 999,960 games, in some minutes and 4 GB.
 """
 from __future__ import annotations
 
 import json
-import re
 import subprocess
 import sys
 from itertools import product
@@ -23,6 +22,16 @@ sys.path[0] = str(TOP)
 from tests.tournament import simulation  # noqa: E402 since the path comes first
 from tests.tournament.runner import SCRIPTS  # noqa: E402 since the path comes first
 
+R_COMMANDS = """\
+library(BradleyTerry2)
+games <- read.csv("games.csv")
+games <- games[games$winner != "", ]
+names <- sort(unique(c(games$black, games$white)))
+games$one <- data.frame(engine = factor(games$black, names), black = 1)
+games$two <- data.frame(engine = factor(games$white, names), black = 0)
+fit <- BTm(games$winner == "black", one, two, ~ engine + black, id = "engine", data = games)
+round(400 / log(10) * coef(fit), 1)
+"""
 DIFFERENCES = [
     (0, 10),
     (0, 20),
@@ -66,13 +75,11 @@ def print_year(folder: Path, seeds: int) -> None:
 
 
 def print_ratings(folder: Path) -> None:
-    """Prints what R finds of six engines that are 60 Elo apart, by the page's commands."""
+    """Prints what R finds of six engines that are 60 Elo apart."""
     simulation.write_tournament(folder / "all", simulation.strengths(6, 60), 200)
     with open(folder / "games.csv", "wb") as file:
         subprocess.run([SCRIPTS / "tournament", "export", folder / "all", "--csv"], stdout=file)
-    page = (TOP / "docs/tournaments.md").read_text()
-    (commands,) = re.findall(r"^```\n(library\(BradleyTerry2\)\n.*?)```$", page, re.M | re.S)
-    subprocess.run(["R", "--no-save", "--quiet"], cwd=folder, input=commands.encode(), check=True)
+    subprocess.run(["R", "--no-save", "--quiet"], cwd=folder, input=R_COMMANDS.encode(), check=True)
     print("wanted: near 60, 120, 180, 240 and 300, and near 0 for Black")
 
 

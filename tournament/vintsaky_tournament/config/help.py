@@ -421,7 +421,8 @@ intervals that follow from whole pairs.
   --by KIND          print the scores of games by colour, opening or length,
                      with intervals; those by opening or length are Black's. By
                      time, each engine has a line for its games in which its
-                     moves took so many seconds on average
+                     moves took so many seconds on average; a game in which
+                     none of its moves was timed is in no line
   --json             print JSON: scores are from 0 to 1, an infinite Elo is
                      null, and pairs that repeat each other count as one in
                      pairs_in_interval. It has scores by time with --by time
