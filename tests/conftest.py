@@ -153,6 +153,7 @@ MISSING: dict[str, Callable[[], Optional[str]]] = {
     "cargo": lacks_cargo,
     "gnugo": lacks_command("/usr/games/gnugo"),
     "chromium": lacks_command("chromium"),
+    "firefox": lacks_command("firefox-esr"),
     "root": lacks_root,
 }
 

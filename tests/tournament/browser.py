@@ -48,13 +48,18 @@ def without_policy(text: str) -> str:
     return found
 
 
-def answer(place: Path, script: str, fragment: str = "", text: str = "") -> Any:
-    """Returns what a function of this text returns, which is a part of the page's own script. The
-    page is that in this place, or another text of it."""
+def driven(place: Path, script: str, text: str = "") -> Path:
+    """Returns a page that a function of this text has become a part of. The page is that in this
+    place, or another text of it."""
     text = without_policy(text or place.read_text(encoding="utf-8"))
     assert text.count(END_OF_SCRIPT) == 1
-    driven = place.with_name(f"driven-{place.name}")
-    driven.write_text(text.replace(END_OF_SCRIPT, DRIVER % script + END_OF_SCRIPT), "utf-8")
-    found = FOUND.search(shown(driven, fragment))
+    made = place.with_name(f"driven-{place.name}")
+    made.write_text(text.replace(END_OF_SCRIPT, DRIVER % script + END_OF_SCRIPT), "utf-8")
+    return made
+
+
+def answer(place: Path, script: str, fragment: str = "", text: str = "") -> Any:
+    """Returns what a function of this text returns, which is a part of the page's own script."""
+    found = FOUND.search(shown(driven(place, script, text), fragment))
     assert found, "the page had no answer"
     return json.loads(html.unescape(found[1]))

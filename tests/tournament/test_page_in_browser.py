@@ -1,14 +1,16 @@
 """The page of a tournament in a browser: boards, the table of games, and what mustn't run."""
 from __future__ import annotations
 
+import functools
 import json
 import re
 from pathlib import Path
-from typing import Any, Dict, Iterator, List, Tuple
+from typing import Any, Callable, Dict, Iterator, List, Tuple
 
 import pytest
 
 from .browser import answer, shown, without_policy
+from .firefox import firefox
 from .hostile import RUNS, write_hostile
 from .runner import Runner, engines
 from .written import write_plan, write_result
@@ -55,9 +57,9 @@ def played(shared_runner: Runner, request: pytest.FixtureRequest) -> Iterator[Di
     yield found
 
 
-def differences(folder: Path, text: str = "") -> List[str]:
-    """Returns the games whose last board, or whose score, isn't that of twogtp."""
-    found: Dict[str, List[str]] = answer(folder / "page.html", BOARDS, text=text)
+def differences(folder: Path, ask: Callable[[Path, str], Any] = answer) -> List[str]:
+    """Returns the games whose last board, or whose score, isn't that of twogtp, in a browser."""
+    found: Dict[str, List[str]] = ask(folder / "page.html", BOARDS)
     assert len(found) == len(list((folder / "games").iterdir())) >= 8
     wrong = []
     for name, (board, score, verdict, kind) in found.items():
@@ -87,7 +89,8 @@ def test_fault_in_the_rules_would_be_noticed(fault: str, played: Dict[str, Path]
     text = (played["5x5"] / "page.html").read_text()
     right, wrong = FAULTS[fault]
     assert text.count(right) == 1
-    assert differences(played["5x5"], text.replace(right, wrong)) != []
+    text = text.replace(right, wrong)
+    assert differences(played["5x5"], functools.partial(answer, text=text)) != []
 
 
 # ---- use
@@ -174,10 +177,12 @@ return found;
 """
 
 
+ALL %= ",".join(f"{json.dumps(name)}: async () => {{{use}}}" for name, (use, _) in USES.items())
+EXPECTED = {name: result for name, (_, result) in USES.items()}
+
+
 def test_uses(written: Path) -> None:
-    uses = ",".join(f"{json.dumps(name)}: async () => {{{use}}}" for name, (use, _) in USES.items())
-    expected = {name: result for name, (_, result) in USES.items()}
-    assert answer(written, ALL % uses) == expected
+    assert answer(written, ALL) == EXPECTED
 
 
 AT_LAST = 'while (!byId("comment").textContent) await pause(); return byId("comment").textContent'
@@ -227,3 +232,32 @@ def test_nothing_of_others_runs(is_planted: bool, has_policy: bool, hostile: Pat
     has_run = re.search(r'<html[^>]*\shi="1"', page) is not None
     # without the policy a hole is seen, so that this test notices one
     assert has_run == (is_planted and not has_policy)
+
+
+# ---- Firefox
+
+# what a page says of its games before and after a filter
+TABLES = """
+const said = () => ["filter", "found", "list"].map(id => byId(id).textContent), before = said();
+set("by-text", "w+");
+return [before, said()];
+"""
+
+
+@pytest.mark.firefox
+def test_firefox_has_the_same_page(played: Dict[str, Path], written: Path, hostile: Path) -> None:
+    with firefox(written.parent) as browser:
+        for folder in played.values():
+            assert differences(folder, browser.answer) == []
+        assert browser.answer(written, ALL) == EXPECTED
+        page = played["9x9 with 5 stones"] / "page.html"
+        before, after = browser.answer(page, TABLES)
+        assert [before, after] == answer(page, TABLES)
+        assert before != after
+        # the policy lets the page's own script run, and nothing else
+        text = hostile.read_text(encoding="utf-8").replace("<main>", PLANTED)
+        for tried, has_run in ((text, False), (without_policy(text), True)):
+            hostile.with_name("tried.html").write_text(tried, encoding="utf-8")
+            browser.open(hostile.with_name("tried.html"))
+            assert browser.value("document.querySelectorAll('#list tbody tr').length") > 0
+            assert browser.value("document.documentElement.hasAttribute('hi')") == has_run
