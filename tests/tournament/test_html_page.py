@@ -20,6 +20,7 @@ from .written import (
     EVEN,
     LOST,
     WON,
+    Pair,
     pairs_of,
     write_pairs,
     write_plan,
@@ -27,6 +28,7 @@ from .written import (
     write_results,
 )
 
+NONE = Pair(None, None)  # games without a result
 Write = Callable[[Path], None]
 
 
@@ -151,8 +153,21 @@ def test_test_is_over_where_the_tally_says(count: int, runner: Runner) -> None:
     line = runner.tally("all", *options).output.rstrip("\n")
     assert line in page.texts["test"]
     assert ("over at seed 104" in page.texts["test"]) == (count >= 104)
+    said = "the test of a - b is over10 Elo accepted, not 0 Elo, at the pair of seed 104"
+    assert (said in page.texts["state"]) == (count >= 104)
     (counts,) = [row for row in page.rows["test"] if row[0] == "pairs"]
     assert list(map(int, counts[1:])) == [0, 0, min(count, 104) // 3, 0, sum(map(int, counts[5:]))]
+
+
+@pytest.mark.parametrize("count, is_over", [(103, False), (104, True)])
+def test_no_more_games_are_missed_once_the_test_is_over(
+    count: int, is_over: bool, runner: Runner
+) -> None:
+    write_pairs(runner.folder / "all", [*([WON, WON, EVEN] * 50)[:count], NONE, NONE])
+    for result in (runner.folder / "all/games").iterdir():
+        os.utime(result, (1, 1))
+    page = page_of(runner, "--sprt", "0", "10")
+    assert ("not running" in page.texts["state"]) != is_over
 
 
 def test_course_of_the_score_ends_with_the_numbers_of_the_tally(runner: Runner) -> None:

@@ -213,13 +213,18 @@ def ratios_of(test: Test) -> str:
     return f"log likelihood ratio {test.ratio:.2f}, exact {test.exact:.2f}, bounds {bounds}"
 
 
+def verdict_of(test: Test) -> str:
+    """Returns what a sequential test has accepted, and at which pair; an empty text before that."""
+    if test.decision is None:
+        return ""
+    low, high = (f"{difference:g} Elo" for difference in test.differences)
+    accepted = (f"{low} accepted, not {high}", f"{high} accepted, not {low}")
+    return f"{accepted[test.decision]}, at the pair of seed {test.seed}"
+
+
 def line_of_test(test: Test) -> str:
     """Returns what a sequential test says."""
-    low, high = (f"{difference:g} Elo" for difference in test.differences)
-    accepted = {0: f"{low} accepted, not {high}", 1: f"{high} accepted, not {low}"}
-    said = "go on"
-    if test.decision is not None:
-        said = f"{accepted[test.decision]}, at the pair of seed {test.seed}"
+    said = verdict_of(test) or "go on"
     count = f"{sum(test.counts)} pairs{lacking(test.counts)}"
     games = ", ".join(map(test.pairs.games.name, test.left_out()))
     left_out = f"; left out, without a result after their try: {games}" if games else ""

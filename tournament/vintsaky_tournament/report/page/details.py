@@ -11,6 +11,7 @@ from ...play.progress import as_text
 from ...stats.breakdown import Part, by_length, by_opening
 from ...store.engine_files import replaced_in
 from ...store.versions import versions_of
+from ..text import verdict_of
 from . import charts
 from .charts import Share
 from .failures import Failures
@@ -41,12 +42,15 @@ def state(view: View, failures: Failures) -> list[Child]:
     is_going_on = not is_done and is_running(gathered)
     rate = rate_of(gathered, ends_of(gathered)) if is_going_on else None
     facts = [fact("games", f"{counts.have} of {total}", "good" if is_done else None)]
+    verdict = verdict_of(view.test) if view.test else ""
+    if view.test and verdict:
+        facts += [fact(f"the test of {' - '.join(view.test.engines)} is over", verdict, "good")]
     if rate:
         facts += [fact("games a minute", f"{rate.per_minute:.1f}")]
         facts += [fact("left", as_text(rate.minutes_left))]
     if is_going_on:
         facts += [fact("in play", len(gathered.playing))]
-    elif not is_done:
+    elif not is_done and not verdict:
         facts += [fact("state", "not running", "bad")]
     failed: Child = failures.count
     if failures.count:
