@@ -252,6 +252,35 @@ def test_without_moves(runner: Runner) -> None:
     assert [found["id"] for found, _ in page.scripts if "type" in found] == ["data"]
 
 
+@pytest.mark.parametrize(
+    "verdicts, said",
+    [
+        (["B+R", "W+R"], "2 games: from 30 to 30 moves, the middle one 30."),
+        (
+            ["B+R", "abandoned white"],
+            "1 game: from 30 to 30 moves, the middle one 30. "
+            "Games that were broken off aren't counted here.",
+        ),
+        (
+            ["abandoned black", "abandoned white"],
+            "2 games: from 30 to 30 moves, the middle one 30. All were broken off.",
+        ),
+    ],
+    ids=["none", "one", "all"],
+)
+def test_note_says_which_lengths_are_counted(
+    verdicts: List[str], said: str, runner: Runner
+) -> None:
+    write_plan(runner.folder / "all", "ab", 1)
+    found = {game: f"{verdict} {ENDED}" for game, verdict in zip(["1_a_b", "1_b_a"], verdicts)}
+    write_results(runner.folder / "all", found)
+    runner.tournament("page", "all")
+    (note,) = re.findall(
+        r"[0-9]+ games?: from [^<]*", (runner.folder / "all/page.html").read_text()
+    )
+    assert note == said
+
+
 # ---- failures
 
 

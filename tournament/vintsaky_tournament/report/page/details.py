@@ -168,17 +168,22 @@ def lengths(view: View) -> list[Child]:
     games = view.gathered.ended
     whole = [game.length for game in games if not game.has_failed or game.kind == "forfeit"]
     found = sorted(whole or [game.length for game in games])
+    note = "" if len(whole) == len(games) else " Games that were broken off aren't counted here."
+    note = note if whole else " All were broken off."
     histogram = charts.Lengths(found)
     text = (
         f"{counted(len(found))}: from {found[0]} to {found[-1]} moves, the middle one "
-        f"{found[len(found) // 2]}. Games that were broken off aren't counted here."
+        f"{found[len(found) // 2]}.{note}"
     )
     rows: list[list[Child]] = [[histogram.name(each), each.games] for each in histogram.bins]
     return [
         histogram.chart(),
         tag("p", text, class_="note"),
         behind("the numbers", table(["moves", "games"], rows, "games by length", None, (1,))),
-        behind("Black's score by length", parts_table("length", by_length(view.counts))),
+        behind(
+            "Black's score by length, of all games that count, broken off or not",
+            parts_table("length", by_length(view.counts)),
+        ),
     ]
 
 
@@ -189,7 +194,7 @@ def parts_table(name: str, parts: list[Part]) -> Html:
         for part in parts
     ]
     heads = [name, "games", "Black's score, %", "95 % interval"]
-    return table(heads, rows, f"Black's score by {name}", None, (1, 2, 3))
+    return table(heads, rows, f"Black's score by {name}, of all games that count", None, (1, 2, 3))
 
 
 def openings(view: View) -> list[Child]:
