@@ -142,6 +142,22 @@ class Notes:
         when = "before anything was asked" if command == NOTHING_ASKED else f"at '{command}'"
         return f"it ended {when}: {ending}"
 
+    def cause(self, side: Side) -> str:
+        """Returns the same without what differs from game to game: of a command there is only its
+        name, and of seconds nothing."""
+        event, _, rest = self.last_failure[side].partition(" ")
+        _, _, text = rest.partition(": ")
+        command, _, ending = text.partition(": ")
+        name = command.lstrip("0123456789 ").partition(" ")[0]
+        if event == "ended" and command != NOTHING_ASKED:
+            return f"it ended at {name}: {ending}"
+        texts = {
+            "late": f"no answer to {name} within the limit",
+            "out-of-time": f"out of time by the clock at {name}",
+            "waited": f"no answer to {name} when twogtp ended",
+        }
+        return texts.get(event) or self.failure(side)
+
 
 def date_of(text: str) -> str:
     """Returns when a game began, by the second line of its notes; an empty text where that isn't

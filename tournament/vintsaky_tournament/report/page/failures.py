@@ -68,7 +68,7 @@ class Failures:
         assert side is not None
         noted = notes.read(f"{self.folder}/notes/{name}")
         if noted and noted.last_failure[side]:
-            return noted.failure(side)
+            return noted.cause(side)
         about = f" {side.colour}: "
         lines = [line for line in self.log(name).split("\n") if line.startswith("twogtp: ")]
         lines = [line for line in lines if about in line]
