@@ -372,6 +372,18 @@ def test_only_the_script_and_the_style_of_the_page_are_let_run(hostile: Page) ->
     assert set(addresses) == {"http://www.w3.org/2000/svg"}
 
 
+# ---- the style
+
+
+def test_each_way_to_win_or_to_lose_has_its_own_colour(runner: Runner) -> None:
+    write_pairs(runner.folder / "all", [WON])
+    page = page_of(runner)
+    tints = dict(re.findall(r"[.]end[.]((?:won|lost)[.\w]*) { --tint: ([^;]*);", page.styles[0]))
+    kinds = [kind for kind in page.data["kinds"] if kind not in ("draw", "limit", "in play")]
+    found = [tints.get(f"{how}.{kind}", tints[how]) for how in ("won", "lost") for kind in kinds]
+    assert len(set(found)) == len(found) == 14
+
+
 # ---- where it is written
 
 
