@@ -384,6 +384,14 @@ def test_each_way_to_win_or_to_lose_has_its_own_colour(runner: Runner) -> None:
     assert len(set(found)) == len(found) == 14
 
 
+def test_dark_is_for_screens(runner: Runner) -> None:
+    write_pairs(runner.folder / "all", [WON])
+    (style,) = page_of(runner).styles
+    media = re.findall(r"@media ([^{]*) {\s*:root[^{]*data-shade", style)
+    assert media == ["screen and (prefers-color-scheme: dark)", "screen"]
+    assert style.count("data-shade") == len(media)
+
+
 # ---- where it is written
 
 
