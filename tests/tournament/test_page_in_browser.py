@@ -152,6 +152,19 @@ USES: Dict[str, Tuple[str, Any]] = {
         'return asText(positionsOf(await recordOf(byName.get("1_a_b"))).pop())',
         ". . O 3\nX X . 2\n. X . 1\nA B C\ncaptures B 1 W 0\n",
     ),
+    "back": (
+        'location.hash = "#plan"; await pause(); location.hash = "#game=1_a_b";'
+        ' while (!byId("viewer").open) await pause(); history.back();'
+        ' for (let at = 0; at < 40 && byId("viewer").open; at++) await pause();'
+        ' return [byId("viewer").open, location.hash]',
+        [False, "#plan"],
+    ),
+    "a link for the second time": (
+        'const link = document.querySelector("#failures h3 a"); link.click(); await pause();'
+        ' const first = verdicts(); byId("filter").reset(); await pause(); change(); link.click();'
+        " await pause(); return [first, verdicts()]",
+        [["W+F(illegal move)"], ["W+F(illegal move)"]],
+    ),
     "SGF": (
         'return sgfOf(await recordOf(byName.get("2_a_b"))).replace("\\n", "")',
         "(;FF[4]GM[1]CA[UTF-8]AP[Vintsaky]SZ[3]KM[5]PB[a]PW[b]RE[Void]GN[2_a_b]C[limit, 4 moves]"

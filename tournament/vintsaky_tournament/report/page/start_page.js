@@ -28,7 +28,10 @@ function heedAddress() {
   if (asked.has("game")) {
     const game = byName.get(asked.get("game"));
     if (game) openGame(game, asked.has("move") ? Number(asked.get("move")) || 0 : undefined);
-  } else if (asked.has("engine")) {
+    return;
+  }
+  byId("viewer").close();  // of a game that the address before has named
+  if (asked.has("engine")) {
     const place = name => data.engines.includes(name) ? data.engines.indexOf(name) : "";
     for (const id of ["by-colour", "by-text", "by-least", "by-most"]) byId(id).value = "";
     byId("by-engine").value = place(asked.get("engine"));
@@ -112,11 +115,16 @@ showData();
 byId("close").addEventListener("click", () => byId("viewer").close());
 byId("viewer").addEventListener("close", () => {
   viewer.stop();
-  history.replaceState(null, "", "#games");
+  if (location.hash.startsWith("#game=")) history.replaceState(null, "", "#games");
 });
 byId("viewer").addEventListener("click", event => {
   if (event.target === byId("viewer")) byId("viewer").close();
 });
 addEventListener("hashchange", heedAddress);
+// a link to the address that is there already changes none
+document.addEventListener("click", event => {
+  const link = event.target.closest("a");
+  if (link && link.hash && link.href === location.href) heedAddress();
+});
 heedAddress();
 if (document.documentElement.hasAttribute("data-served")) refresh(null);
