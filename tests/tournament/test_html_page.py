@@ -214,12 +214,33 @@ def test_games_are_those_of_the_folder(runner: Runner) -> None:
     planes = page.planes()
     assert list(planes[:5]) == [0, 24, 25, 25, 12]
     # 2 seconds to some 3 percent, an opening, a quarter, one second, and a game without notes
-    seconds = [level and data["first"] * data["growth"] ** (level - 1) for level in planes[5:]]
+    seconds = [level and data["first"] * data["growth"] ** (level - 2) for level in planes[5:]]
     assert seconds == pytest.approx([2, 0, 0.25, 1, 0], rel=0.035)
     assert page.rows["games"][1:] == [
         ["1", "a", "b", "W+5", "4", "1.0", "2.8\n"],
         ["2", "b", "a", "B+R", "1\n"],
     ]
+
+
+def test_moves_of_no_time_are_of_none(runner: Runner) -> None:
+    folder = runner.folder / "all"
+    write_plan(folder, "ab", 1, "option --size=5", "option --komi=7")
+    verdict = "B+R moves 8 restarts 0 0"
+    write_result(folder, "1_a_b", verdict, "A1 E5 A2 E4 A3 E3 A4 E2")
+    # the mean of Black's moves is 0.00025 s; those of White take four milliseconds each
+    times = zip("A1 E5 A2 E4 A3 E3 A4 E2".split(), ["0.000", "0.004"] * 3 + ["0.001", "0.004"])
+    lines = [
+        f"{at} {'white' if at % 2 == 0 else 'black'} {vertex} {seconds}\n"
+        for at, (vertex, seconds) in enumerate(times, 1)
+    ]
+    (folder / "notes").mkdir()
+    (folder / "notes/1_a_b").write_text(f"1_a_b on here\n{''.join(lines)}result: {verdict}\n")
+    page = page_of(runner)
+    (black,) = [row for row in page.rows["times"] if row[0] == "a"]
+    assert black[2:] == ["4", "0.00025", "0.000", "0.001", "0.001", "0.001"]
+    (white,) = [row for row in page.rows["times"] if row[0] == "b"]
+    assert white[2:] == ["4", *["0.004"] * 5]
+    assert "below 1 ms: 3 moves" in page.text
 
 
 def test_moves_of_large_boards_have_two_planes(runner: Runner) -> None:

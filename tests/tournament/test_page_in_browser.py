@@ -104,6 +104,10 @@ def written(shared_runner: Runner) -> Path:
     # Black takes the corner at A1 by its third move, after which White may not play there
     write_result(folder, "1_a_b", "B+R moves 6 restarts 0 0", "B1 A1 B2 C3 A2 pass")
     write_result(folder, "1_b_a", "W+F(illegal move) moves 2 restarts 0 0", "A1 A2")
+    (folder / "notes").mkdir()
+    (folder / "notes/1_b_a").write_text(
+        "1_b_a on here\n2 white A2 0.000\nresult: W+F(illegal move) moves 2 restarts 0 0\n"
+    )
     write_result(folder, "2_a_b", "limit moves 4 restarts 1 0", "A1 A2 A3 B1")
     shared_runner.tournament("page", "written")
     return folder / "page.html"
@@ -134,6 +138,10 @@ USES: Dict[str, Tuple[str, Any]] = {
         ["5 of 6: Black A2, captures 1", "1 captured", 4],
     ),
     "end": ('await open("1_a_b"); return said()', "6 of 6: White pass. The end: B+R"),
+    "no time": (
+        'await open("1_b_a"); return said()',
+        "2 of 2: White A2, 0.000 s. The end: W+F(illegal move)",
+    ),
     "next game": (
         'await open("1_a_b"); press("]"); const name = byId("viewer-name");'
         ' while (name.textContent.startsWith("a - b")) await pause(); return name.textContent',

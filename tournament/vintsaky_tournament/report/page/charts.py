@@ -173,18 +173,22 @@ class Lengths:
 def move_times(levels: Mapping[int, int]) -> Html:
     """Returns the seconds of an engine's moves, on a logarithmic scale."""
     width, height, floor = 420, 60, 44
-    across = Scale(min(POWERS), max(POWERS), 4, width - 4)
+    across = Scale(min(POWERS) - STEP, max(POWERS), 4, width - 4)
     parts = []
     for power, name in POWERS.items():
         anchor = {min(POWERS): "start", max(POWERS): "end"}.get(power, "middle")
         parts += [line(across(power), 2, across(power), floor, "grid")]
         parts += [label(across(power), height - 4, name, anchor)]
     found: Counter[int] = Counter()
+    lowest = round(min(POWERS) / STEP) - 1  # the bin of what is below the scale
     for level, count in levels.items():
-        found[math.floor(math.log10(seconds_of(level)) / STEP + 1e-9)] += count
+        seconds = seconds_of(level)
+        at = math.floor(math.log10(seconds) / STEP + 1e-9) if seconds else lowest
+        found[at] += count
     up = Scale(0, max(found.values(), default=1), floor, 4)
     for at, count in sorted(found.items()):
         title = f"{10 ** (at * STEP):.3g} to {10 ** ((at + 1) * STEP):.3g} s: {count} moves"
+        title = title if at > lowest else f"below 1 ms: {count} moves"
         wide = across(STEP) - across(0) - 0.5
         parts += [rectangle(across(at * STEP), up(count), wide, floor - up(count), "bar", title)]
     return picture(width, height, f"the seconds of {sum(found.values())} moves", *parts)

@@ -246,6 +246,7 @@ def quantile(levels: Mapping[int, int], wanted: float) -> float:
 def in_seconds(seconds: float) -> str:
     """Returns seconds with two digits."""
     decimals = 0 if seconds >= 10 else 1 if seconds >= 1 else 2 if seconds >= 0.095 else 3
+    decimals = 5 if 0 < seconds < 0.00095 else decimals
     return f"{seconds:.{decimals}f}"
 
 

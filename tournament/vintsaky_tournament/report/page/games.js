@@ -51,7 +51,7 @@ async function recordOf(game) {
     steps.push({
       side: at % 2 ? 3 - opener : opener,
       move: bytes[begin + at] + 256 * high,
-      seconds: level ? data.first * data.growth ** (level - 1) : null,
+      seconds: level > 1 ? data.first * data.growth ** (level - 2) : level ? 0 : null,
     });
   }
   const engines = [data.engines[game.black], data.engines[game.white]];

@@ -12,23 +12,23 @@ if TYPE_CHECKING:
     from .games import Game
 
 CHUNK = 128  # games
-FIRST, GROWTH = 0.001, 1.07  # seconds of level 1, and how much longer each next level is
+FIRST, GROWTH = 0.001, 1.07  # seconds of level 2, and how much longer each next level is
 MOST_LEVEL = 255
 SMALL = 255  # numbers of moves that a byte holds
 
 
 @lru_cache(maxsize=65536)  # the notes have milliseconds, so most are the same
 def level_of(seconds: float) -> int:
-    """Returns seconds as a number from 1 to 255, which is right to some 3 percent; 0 stands for
-    seconds that aren't known."""
-    if seconds <= FIRST:
+    """Returns seconds as a number from 1 to 255, right to some 3 percent. Level 1 stands for
+    less than half a millisecond, which the notes have as none, and 0 for what isn't known."""
+    if seconds < FIRST / 2:
         return 1
-    return min(MOST_LEVEL, 1 + round(math.log(seconds / FIRST, GROWTH)))
+    return max(2, min(MOST_LEVEL, 2 + round(math.log(seconds / FIRST, GROWTH))))
 
 
 def seconds_of(level: int) -> float:
     """Returns the seconds that a level stands for."""
-    return float(FIRST * GROWTH ** (level - 1))
+    return float(FIRST * GROWTH ** (level - 2)) if level > 1 else 0.0
 
 
 def chunks_of(games: Sequence[Game], size: int) -> Iterator[str]:
