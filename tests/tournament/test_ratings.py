@@ -119,9 +119,9 @@ def test_there_are_no_ratings(names: str, verdicts: Dict[str, str], runner: Runn
 
 
 def test_worth_of_black_where_no_pair_tells_of_it(runner: Runner) -> None:
-    won = {f"1_{one}_{other}": "B+R" for one, other in ("ab", "ac", "bc")}
-    lost = {f"1_{other}_{one}": "W+R" for one, other in ("ab", "ac", "bc")}
-    write_verdicts(runner, "abc", {**won, **lost})  # who is better won with both colours
+    by_black = dict.fromkeys(("1_a_b", "1_a_c", "1_b_c"), "B+R")
+    by_white = dict.fromkeys(("1_b_a", "1_c_a", "1_c_b"), "W+R")
+    write_verdicts(runner, "abc", {**by_black, **by_white})  # who is better won with both colours
     assert json.loads(runner.tally("all", "--json").output)["black"] is None
     assert "Black's advantage" not in runner.tally("all").output
 
