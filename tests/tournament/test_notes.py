@@ -1,6 +1,7 @@
 """The notes of a game: its moves as they are played, and what tally and export read of them."""
 from __future__ import annotations
 
+import calendar
 import json
 import os
 import re
@@ -142,12 +143,13 @@ def test_notes_have_the_moves_and_times(small: Played) -> None:
 
 
 def test_notes_have_the_time_of_the_beginning(runner: Runner) -> None:
-    before = time.gmtime()
+    before = int(time.time())
     runner.tournament("play", "all", *engines(one="gtp_engine", two="gtp_engine"), *ONE_GAME)
-    after = time.gmtime()
+    after = time.time()
     for game, notes in runner.files("all/notes").items():
         line = notes.splitlines()[1]
-        assert before <= time.strptime(line, "began %Y-%m-%dT%H:%M:%SZ") <= after, game
+        began = calendar.timegm(time.strptime(line, "began %Y-%m-%dT%H:%M:%SZ"))
+        assert before <= began <= after, game
 
 
 def test_move_that_is_refused_is_taken_back(runner: Runner) -> None:
