@@ -168,9 +168,10 @@ USES: Dict[str, Tuple[str, Any]] = {
         [False, "#plan"],
     ),
     "a link for the second time": (
-        'const link = document.querySelector("#failures h3 a"); link.click(); await pause();'
-        ' const first = verdicts(); byId("filter").reset(); await pause(); change(); link.click();'
-        " await pause(); return [first, verdicts()]",
+        'const link = document.querySelector("#failures h3 a"), found = [];'
+        ' for (let time = 0; time < 2; time++) { byId("filter").reset(); change(); link.click();'
+        " for (let at = 0; at < 40 && verdicts().length > 1; at++) await pause();"
+        " found.push(verdicts()); } return found",
         [["W+F(illegal move)"], ["W+F(illegal move)"]],
     ),
     "SGF": (
