@@ -59,8 +59,12 @@ class Firefox:
         return self.ask("WebDriver:ExecuteScript", script=script, args=[])["value"]
 
     def open(self, place: Path) -> None:
+        """Opens the page of a file."""
+        self.open_address(f"file://{place}")
+
+    def open_address(self, address: str) -> None:
         """Opens a page."""
-        self.ask("WebDriver:Navigate", url=f"file://{place}")
+        self.ask("WebDriver:Navigate", url=address)
 
     def answer(self, place: Path, script: str) -> Any:
         """Returns what a function of this text returns, as browser.answer does."""

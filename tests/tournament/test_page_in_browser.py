@@ -283,3 +283,36 @@ def test_firefox_has_the_same_page(played: Dict[str, Path], written: Path, hosti
             browser.open(hostile.with_name("tried.html"))
             assert browser.value("document.querySelectorAll('#list tbody tr').length") > 0
             assert browser.value("document.documentElement.hasAttribute('hi')") == has_run
+
+
+# ---- tournament watch
+
+# it waits for a file before each move: go0, then go1, and so on
+WAITS = """
+n=0
+while read -r line; do
+    case $line in
+        *genmove*) until [ -e "go$n" ]; do sleep 0.1; done; n=$((n + 1)) ;;
+    esac
+    echo "$line"
+done | gtp_engine --policy random --seed "$1"
+"""
+STONES = "[...document.querySelectorAll('.mini')].map(it => it.querySelectorAll('.stone').length)"
+
+
+@pytest.mark.firefox
+def test_boards_in_play_change(runner: Runner) -> None:
+    runner.script("waits", WAITS)
+    words = engines(one="./waits 1", two="./waits 2")
+    runner.tournament("plan", "all", *words, "--seeds", "1", "--", "--size", "9")
+    runner.pass_trials("all")
+    runner.start("tournament", "play", "all", "--jobs", "2")
+    watch = runner.start("tournament", "watch", "all")
+    assert watch.stdout
+    with firefox(runner.folder) as browser:
+        browser.open_address(watch.stdout.readline().strip())
+        for count in range(3):
+            # each side has made so many moves, in both games, and the page wasn't loaded again
+            stones = [2 * count] * 2
+            runner.wait_until(lambda: browser.value(STONES) == stones)
+            runner.write(f"go{count}", "")
