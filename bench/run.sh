@@ -21,7 +21,7 @@ check: limit.c, which sends the same commands and judges nothing: at most 1.3 ti
 playouts: by_hand.h, a board in C without the library: at least 1.2 times its speed with -O2, and 1.0 times with -O3
 learning: single calls from Python: at least 10 times their speed
 tournament: twogtp alone, and engines alone: none
-page: a loop of Python: 3 MB and 8 s for 10,000 games with moves; 20 MB and 40 s for 100,000 without, where 20 million turns take 1.5 s
+page: a loop of Python: 3 MB and 8 s for 10,000 games with moves; 20 MB and 40 s for 100,000 without, where 20 million turns take 1.5 s; 2 s until a browser shows them
 ROWS
 }
 
