@@ -11,7 +11,6 @@ from ...stats.sprt import Test
 from ..text import whole
 from .courses import AfterPair, AfterPairs
 from .markup import Html, counted, tag
-from .packed import seconds_of
 from .svg import (
     Frame,
     Scale,
@@ -170,8 +169,9 @@ class Lengths:
         return frame.picture(title, *frame.grid(whole_ticks(0, most, 4)), *marks, *bars)
 
 
-def move_times(levels: Mapping[int, int]) -> Html:
-    """Returns the seconds of an engine's moves, on a logarithmic scale."""
+def move_times(times: Mapping[int, int]) -> Html:
+    """Returns the seconds of an engine's moves, on a logarithmic scale. So many of them took so
+    many milliseconds."""
     width, height, floor = 420, 60, 44
     across = Scale(min(POWERS) - STEP, max(POWERS), 4, width - 4)
     parts = []
@@ -181,9 +181,8 @@ def move_times(levels: Mapping[int, int]) -> Html:
         parts += [label(across(power), height - 4, name, anchor)]
     found: Counter[int] = Counter()
     lowest = round(min(POWERS) / STEP) - 1  # the bin of what is below the scale
-    for level, count in levels.items():
-        seconds = seconds_of(level)
-        at = math.floor(math.log10(seconds) / STEP + 1e-9) if seconds else lowest
+    for time, count in times.items():
+        at = math.floor(math.log10(time / 1000) / STEP + 1e-9) if time else lowest
         found[at] += count
     up = Scale(0, max(found.values(), default=1), floor, 4)
     for at, count in sorted(found.items()):

@@ -16,7 +16,6 @@ from ...stats.endings import Endings, Rules
 from ...stats.records import is_host
 from ...stats.summary import Counts
 from ...store import notes, results, scores
-from .packed import level_of
 
 # how games end, in the order of legends; FAILED are those in which a side or the run failed
 KINDS = {
@@ -34,17 +33,19 @@ FAILED = ("time", "forfeit", "unfit", "abandoned", "late")
 IN_PLAY = "in play"
 ALL_KINDS = (*KINDS.values(), IN_PLAY)
 NOTED = re.compile(
-    rb"(?mi)^([0-9]{1,4}) (?:black|white) ([A-HJ-Z][0-9]{1,2}|pass) ([0-9.]{1,20}|opening)(?: |$)"
+    rb"(?mi)^([0-9]{1,4}) (?:black|white) ([A-HJ-Z][0-9]{1,2}|pass|resign) ([0-9.]{1,20}|opening)"
+    rb"(?: |$)"
 )
 THOUGHT = re.compile(rb"\nthought: black ([0-9.]{1,20}), white ([0-9.]{1,20})")
-OPENING = b"opening"
+OPENING, LONGEST = b"opening", 10**9  # milliseconds
 Stamp = Sequence[int]
 
 
 class Noted(NamedTuple):
     """What notes say of a game."""
 
-    levels: bytes | None = None  # of the seconds of each move
+    times: array[int] | None = None  # of each move: milliseconds and one more; 0 if unknown
+    others: tuple[Sequence[int], Sequence[int]] = ((), ())  # of Black's and White's answers beside
     seconds: tuple[float, float] | None = None  # of both sides
     host: str = ""
 
@@ -85,7 +86,8 @@ class Reader:
         self.size = self.setup.rows()
         self.numbers = numbers_of(self.size)
         self.endings = Endings(plan, folder, rules)
-        self.levels: dict[bytes, int] = {}  # of seconds as they are written
+        self.times: dict[bytes, int] = {}  # of seconds as they are written
+        self.first = SIDES[self.setup.stones() > 0]
 
     def ended(self, counts: Counts, known: Mapping[int, Game]) -> Iterator[Game]:
         """Yields the games that have a result, in the plan's order. Those that are known are taken
@@ -145,24 +147,29 @@ class Reader:
         return tuple(self.numbers[vertex] for vertex in vertices if vertex in self.numbers)
 
     def noted(self, data: bytes | None, length: int) -> Noted:
-        """Returns what the notes of a game say. Of moves with one number the last one counts."""
+        """Returns what the notes of a game say. Of moves with one number the last one is in the
+        record, and others were taken back. The tally counts these too, and resignations."""
         if data is None:
             return Noted()
-        levels = bytearray(length)
+        times = array("I", bytes(4 * length))
+        others: tuple[list[int], list[int]] = ([], [])
         for number, _, text in NOTED.findall(data):
-            at = int(number) - 1
-            if 0 <= at < length and text != OPENING:
-                levels[at] = self.level(text)
-        times = THOUGHT.search(data, max(0, data.rfind(b"\nthought: ")))
-        seconds = (seconds_in(times[1]), seconds_in(times[2])) if times else None
+            at, taken = int(number) - 1, 0 if text == OPENING else self.time(text)
+            if 0 <= at < length:
+                times[at], taken = taken, times[at]
+            if taken:
+                others[(at + self.first) % 2].append(taken)
+        thought = THOUGHT.search(data, max(0, data.rfind(b"\nthought: ")))
+        seconds = (seconds_in(thought[1]), seconds_in(thought[2])) if thought else None
         host = data.partition(b"\n")[0].partition(b" on ")[2].decode("latin-1").split(" ")[0]
-        return Noted(bytes(levels), seconds, host if is_host(host) else "")
+        beside = (tuple(others[0]), tuple(others[1]))
+        return Noted(times, beside, seconds, host if is_host(host) else "")
 
-    def level(self, text: bytes) -> int:
-        """Returns the level of seconds in notes."""
-        known = self.levels.get(text)
+    def time(self, text: bytes) -> int:
+        """Returns seconds in notes as `Noted` has them."""
+        known = self.times.get(text)
         if known is None:
-            known = self.levels[text] = level_of(seconds_in(text))
+            known = self.times[text] = 1 + min(LONGEST, round(1000 * seconds_in(text)))
         return known
 
     def in_play(self, counts: Counts) -> Iterator[Game]:
@@ -191,11 +198,11 @@ class Reader:
             spelled = PASS if spelled.lower() == PASS else spelled.upper()
             if spelled in self.numbers:
                 played[int(at)] = (self.numbers[spelled], seconds)
-        moves, levels = array("H"), bytearray()
+        moves, times = array("H"), array("I")
         while len(moves) + 1 in played:
             move, text = played[len(moves) + 1]
             moves.append(move)
-            levels.append(0 if text == OPENING else self.level(text))
+            times.append(0 if text == OPENING else self.time(text))
         return Game(
             number=number,
             verdict=IN_PLAY,
@@ -204,7 +211,7 @@ class Reader:
             blamed=None,
             restarts=(0, 0),
             moves=moves,
-            noted=self.noted(data, len(moves))._replace(levels=bytes(levels)),
+            noted=self.noted(data, len(moves))._replace(times=times),
             ended=changed,
             dead=(),
             other_verdict="",
@@ -236,10 +243,6 @@ class Gathered:
     def seed(self, game: Game) -> int:
         """Returns the seed of a game."""
         return GameId.parse(self.name(game)).seed
-
-    def first_side(self) -> Side:
-        """Returns the side that moves first."""
-        return SIDES[self.setup.stones() > 0]
 
 
 def seconds_in(text: bytes) -> float:

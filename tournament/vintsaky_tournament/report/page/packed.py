@@ -5,8 +5,7 @@ from __future__ import annotations
 import base64
 import math
 import zlib
-from functools import lru_cache
-from typing import TYPE_CHECKING, Iterator, Sequence
+from typing import TYPE_CHECKING, Dict, Iterator, Sequence
 
 if TYPE_CHECKING:
     from .games import Game
@@ -17,18 +16,27 @@ MOST_LEVEL = 255
 SMALL = 255  # numbers of moves that a byte holds
 
 
-@lru_cache(maxsize=65536)  # the notes have milliseconds, so most are the same
-def level_of(seconds: float) -> int:
-    """Returns seconds as a number from 1 to 255, right to some 3 percent. Level 1 stands for
-    less than half a millisecond, which the notes have as none, and 0 for what isn't known."""
-    if seconds < FIRST / 2:
-        return 1
-    return max(2, min(MOST_LEVEL, 2 + round(math.log(seconds / FIRST, GROWTH))))
+class Levels(Dict[int, int]):
+    """The levels of milliseconds and one more, numbers from 1 to 255 that are right to some 3
+    percent. Level 1 stands for less than half a millisecond, which the notes have as none, and 0
+    for what isn't known."""
+
+    def __missing__(self, time: int) -> int:
+        found = min(time, 1)
+        if time > 1:
+            seconds = (time - 1) / 1000
+            found = max(2, min(MOST_LEVEL, 2 + round(math.log(seconds / FIRST, GROWTH))))
+        self[time] = found
+        return found
 
 
-def seconds_of(level: int) -> float:
-    """Returns the seconds that a level stands for."""
-    return float(FIRST * GROWTH ** (level - 2)) if level > 1 else 0.0
+LEVELS = Levels()
+
+
+def levels_in(game: Game) -> bytes:
+    """Returns the levels of the seconds of a game's moves."""
+    times = game.noted.times
+    return bytes(game.length) if times is None else bytes([LEVELS[time] for time in times])
 
 
 def chunks_of(games: Sequence[Game], size: int) -> Iterator[str]:
@@ -40,6 +48,6 @@ def chunks_of(games: Sequence[Game], size: int) -> Iterator[str]:
         planes = [bytes(move & 255 for move in moves)]
         if size * size > SMALL:
             planes.append(bytes(move >> 8 for move in moves))
-        planes += [game.noted.levels or bytes(game.length) for game in some]
+        planes += [levels_in(game) for game in some]
         packer = zlib.compressobj(9, zlib.DEFLATED, -15)
         yield base64.b64encode(packer.compress(b"".join(planes)) + packer.flush()).decode()
