@@ -393,16 +393,30 @@ def test_only_the_script_and_the_style_of_the_page_are_let_run(hostile: Page) ->
     assert set(addresses) == {"http://www.w3.org/2000/svg"}
 
 
+def test_links_that_need_the_script_are_none_without_it(runner: Runner) -> None:
+    three(runner.folder / "all")
+    links = [found.attributes for found in page_of(runner).elements if found.name == "a"]
+    addresses = [link["href"] or "" for link in links if "href" in link]
+    assert [address for address in addresses if re.match("#.*=", address)] == []
+    assert {(link.get("data-to") or "").partition("=")[0] for link in links} == {
+        *("", "#game", "#engine")
+    }
+
+
 # ---- the style
 
 
 def test_each_way_to_win_or_to_lose_has_its_own_colour(runner: Runner) -> None:
     write_pairs(runner.folder / "all", [WON])
     page = page_of(runner)
-    tints = dict(re.findall(r"[.]end[.]((?:won|lost)[.\w]*) { --tint: ([^;]*);", page.styles[0]))
+    tints = dict(
+        re.findall(r"[.]end[.]((?:won|lost|none)[-.\w]*) { --tint: ([^;]*);", page.styles[0])
+    )
     kinds = [kind for kind in page.data["kinds"] if kind not in ("draw", "limit", "in play")]
     found = [tints.get(f"{how}.{kind}", tints[how]) for how in ("won", "lost") for kind in kinds]
     assert len(set(found)) == len(found) == 14
+    found = [tints.get(f"none.{kind}", tints["none"]) for kind in ("draw", "limit", "other-failed")]
+    assert len(set(found)) == 3
 
 
 def test_dark_is_for_screens(runner: Runner) -> None:

@@ -128,6 +128,17 @@ USES: Dict[str, Tuple[str, Any]] = {
         "sort(); sort(); return [order(), ...verdicts()]",
         ["descending", "B+R", "limit", "W+F(illegal move)"],
     ),
+    # by hand: scores from Black's greatest win to White's, resignations, time, forfeits, no winner
+    "sorted by verdict": (
+        "const of = (verdict, kind, winner = -1) => ({verdict, kind, winner}), some = ["
+        ' of("unfit black", "unfit"), of("W+R", "resignation", 1), of("B+2.5", "score", 0),'
+        ' of("W+12.5", "score", 1), of("0", "draw"), of("abandoned white", "late", 0),'
+        ' of("W+F(no move)", "forfeit", 1), of("B+R", "resignation", 0), of("limit", "limit"),'
+        ' of("B+12.5", "score", 0), of("W+2.5", "score", 1), of("B+T", "time", 0)];'
+        ' return some.map(it => [orderOf(it), it.verdict]).sort().map(it => it[1]).join(", ")',
+        "B+12.5, B+2.5, 0, W+2.5, W+12.5, B+R, W+R, B+T, W+F(no move), limit, unfit black,"
+        " abandoned white",
+    ),
     "keys": (
         'await open("1_a_b"); ["Home", "ArrowRight", "ArrowRight"].forEach(press); return said()',
         "2 of 6: White A1",
@@ -297,6 +308,14 @@ while read -r line; do
     echo "$line"
 done | gtp_engine --policy random --seed "$1"
 """
+# what is there after each change of the page, where the fewest of all are kept
+LEAST = """(() => {
+  const {body, documentElement: {dataset}} = document;
+  const look = () => {
+    dataset.least = Math.min(dataset.least || 9, document.querySelectorAll('.mini').length);
+  };
+  new MutationObserver(look).observe(body, {childList: true, subtree: true});
+})()"""
 STONES = "[...document.querySelectorAll('.mini')].map(it => it.querySelectorAll('.stone').length)"
 
 
@@ -315,4 +334,8 @@ def test_boards_in_play_change(runner: Runner) -> None:
             # each side has made so many moves, in both games, and the page wasn't loaded again
             stones = [2 * count] * 2
             runner.wait_until(lambda: browser.value(STONES) == stones)
+            if count == 0:
+                browser.value(LEAST)
             runner.write(f"go{count}", "")
+        # both are there at each moment
+        assert browser.value("document.documentElement.dataset.least") == "2"

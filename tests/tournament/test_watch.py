@@ -129,7 +129,8 @@ def test_page_is_written_while_games_are_played(runner: Runner) -> None:
     process = runner.start("tournament", "play", "all", "--page", "page.html")
     place = runner.folder / "page.html"
     runner.wait_until(place.exists)
-    assert "games0 of 2" in read(place).texts["state"]
+    state = read(place).texts["state"]
+    assert "games0 of 2" in state and "in play" in state and "not running" not in state
     process.terminate()
     assert runner.finish(process).status == 143
     assert runner.is_idle()

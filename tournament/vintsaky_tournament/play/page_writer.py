@@ -32,6 +32,7 @@ class PageWriter:
             status = 1
             with contextlib.suppress(BaseException):
                 os.close(self.ended)
+                self.page.asked = asked._replace(is_played=True)
                 if not processes.end_with_parent(own, signal.SIGKILL):
                     self.write_again_and_again()
             os._exit(status)

@@ -17,8 +17,7 @@ from .charts import Share
 from .failures import Failures
 from .games import ALL_KINDS, Game
 from .markup import Child, Html, behind, counted, table, tag
-from .packed import seconds_of
-from .rates import ends_of, is_running, rate_of
+from .rates import ends_of, rate_of
 from .standings import in_percent
 from .view import View
 
@@ -28,8 +27,8 @@ MOST_OPENINGS = 500
 
 
 def when(seconds: float) -> str:
-    """Returns a time of this machine."""
-    return time.strftime("%Y-%m-%d %H:%M", time.localtime(seconds))
+    """Returns a time as all of the page has it: in UTC, as the notes of games."""
+    return time.strftime("%Y-%m-%d %H:%M UTC", time.gmtime(seconds))
 
 
 # ---- how far it is
@@ -39,7 +38,7 @@ def state(view: View, failures: Failures) -> list[Child]:
     """Returns how far the tournament is, how fast, and whether something failed."""
     counts, gathered = view.counts, view.gathered
     total, is_done = counts.games.count, counts.have == counts.games.count
-    is_going_on = not is_done and is_running(gathered)
+    is_going_on = not is_done and view.is_running
     rate = rate_of(gathered, ends_of(gathered)) if is_going_on else None
     facts = [fact("games", f"{counts.have} of {total}", "good" if is_done else None)]
     verdict = verdict_of(view.test) if view.test else ""
@@ -75,7 +74,7 @@ def boards_in_play(view: View) -> Html:
     entries = []
     for game in view.gathered.playing:
         name = view.gathered.name(game)
-        link = tag("a", name, href=f"#game={name}", class_="game")
+        link = tag("a", name, data_to=f"#game={name}", class_="game")
         entries.append(tag("li", link, f" move {game.length}"))
     return tag("div", tag("h3", "In play"), tag("ul", entries, class_="playing"))
 
@@ -206,48 +205,47 @@ def openings(view: View) -> list[Child]:
 
 
 def times(view: View) -> Html:
-    """Returns how long the engines thought about a move."""
+    """Returns how long the engines thought about a move, as the tally counts moves."""
     counts = {row.name: Counter[int]() for row in view.order}
-    first = view.gathered.first_side()
+    first = view.gathered.reader.first
     for game in view.gathered.ended:
-        levels = game.noted.levels
-        if levels:
-            engines = view.gathered.engines(game)
-            counts[engines[first]].update(levels[::2])
-            counts[engines[first.other]].update(levels[1::2])
-    rows = [
-        row_of_times(name, +Counter({level: count for level, count in found.items() if level}))
+        noted = game.noted
+        if noted.times:
+            for at, side in enumerate((first, first.other)):
+                found = counts[view.gathered.engines(game)[side]]
+                found.update(noted.times[at::2])
+                found.update(noted.others[side])
+    milliseconds = {
+        name: {each - 1: found[each] for each in sorted(found) if each}
         for name, found in counts.items()
-        if set(found) - {0}
-    ]
+    }
+    rows = [row_of_times(name, found) for name, found in milliseconds.items() if found]
     heads = ["engine", "", "moves", "mean", "half below", "90 % below", "99 % below", "longest"]
     return table(heads, rows, "seconds a move", None, range(2, 8))
 
 
-def row_of_times(name: str, levels: Counter[int]) -> list[Child]:
-    """Returns the row of an engine."""
-    total = sum(levels.values())
-    mean = sum(seconds_of(level) * count for level, count in levels.items()) / total
-    quantiles = [quantile(levels, share * total) for share in (0.5, 0.9, 0.99, 1)]
-    picture = tag("td", charts.move_times(levels), class_="picture")
+def row_of_times(name: str, times: Mapping[int, int]) -> list[Child]:
+    """Returns the row of an engine, of whose moves so many took so many milliseconds."""
+    total = sum(times.values())
+    mean = sum(each * count for each, count in times.items()) / total
+    quantiles = [quantile(times, share * total) for share in (0.5, 0.9, 0.99, 1)]
+    picture = tag("td", charts.move_times(times), class_="picture")
     return [name, picture, total, *map(in_seconds, (mean, *quantiles))]
 
 
-def quantile(levels: Mapping[int, int], wanted: float) -> float:
-    """Returns the seconds up to which so many moves took."""
+def in_seconds(milliseconds: float) -> str:
+    """Returns seconds as the tally has them, with more digits where it would have none."""
+    return f"{milliseconds / 1000:.{5 if 0 < milliseconds < 0.95 else 3}f}"
+
+
+def quantile(times: Mapping[int, int], wanted: float) -> int:
+    """Returns the milliseconds up to which so many moves took. The shortest ones come first."""
     seen = 0
-    for level, count in sorted(levels.items()):
+    for milliseconds, count in times.items():
         seen += count
         if seen >= wanted:
-            return seconds_of(level)
-    return 0.0
-
-
-def in_seconds(seconds: float) -> str:
-    """Returns seconds with two digits."""
-    decimals = 0 if seconds >= 10 else 1 if seconds >= 1 else 2 if seconds >= 0.095 else 3
-    decimals = 5 if 0 < seconds < 0.00095 else decimals
-    return f"{seconds:.{decimals}f}"
+            return milliseconds
+    return 0
 
 
 # ---- over time, and the plan

@@ -11,7 +11,6 @@ from .files import OF_BOARD, as_data, filled, policy, script, style, text_of
 from .games import ALL_KINDS, Game
 from .markup import Child, Html, counted, inner, tag
 from .packed import CHUNK, FIRST, GROWTH, chunks_of
-from .rates import is_running
 from .view import View
 
 SCRIPTS = (*OF_BOARD, "games.js", "start_page.js")
@@ -60,7 +59,7 @@ def document(view: View, base: str, is_served: bool = False) -> str:
 
 def playing_in(view: View) -> list[Game]:
     """Returns the games in play. A run that was killed leaves some that nobody plays."""
-    is_shown = view.asked.has_moves and is_running(view.gathered)
+    is_shown = view.asked.has_moves and view.is_running
     return view.gathered.playing if is_shown else []
 
 
@@ -90,7 +89,7 @@ def sections(view: View, failures: Failures) -> Iterator[Section]:
         yield Section("pairs", "Pairs", standings.pairs(view))
         yield Section("endings", "How games ended", details.endings(view))
         yield Section("lengths", "Length", details.lengths(view))
-    if any(game.noted.levels for game in games):
+    if any(game.noted.times for game in games):
         yield Section("times", "Seconds a move", details.times(view))
     if games and view.plan.openings:
         yield Section("openings", "Openings", details.openings(view))

@@ -105,7 +105,7 @@ class Failures:
         count: Child = counted(len(group.games))
         if group.engine:
             address = f"#engine={quote(group.engine)}&kind={quote(group.kind)}&blamed=1"
-            count = tag("a", count, href=address)
+            count = tag("a", count, data_to=address)
         head = [
             tag("strong", group.engine or group.way),
             f" {group.way}: " if group.engine else ": ",
@@ -138,7 +138,7 @@ class Failures:
     def of_game(self, name: str, has_board: bool) -> Html:
         """Returns a game with links to its board, its log and its notes."""
         links = [link for kind in ("logs", "notes") for link in self.links(kind, name)]
-        where: Child = tag("a", name, href=f"#game={quote(name)}") if has_board else name
+        where: Child = tag("a", name, data_to=f"#game={quote(name)}") if has_board else name
         return tag("li", where, [" (", *joined(links), ")"] if links else None)
 
     def links(self, kind: str, name: str) -> Iterator[Html]:

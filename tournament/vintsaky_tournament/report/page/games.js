@@ -82,15 +82,27 @@ const COLUMNS = [
   {key: "seed", title: "seed", value: game => game.seed, isNumber: true},
   {key: "black", title: "Black", value: game => data.engines[game.black]},
   {key: "white", title: "White", value: game => data.engines[game.white]},
-  {key: "verdict", title: "verdict", value: game => game.verdict},
+  {key: "verdict", title: "verdict", value: orderOf},
   {key: "kind", title: "end", value: game => data.kinds.indexOf(game.kind)},
   {key: "count", title: "moves", value: game => game.count, isNumber: true},
   {key: "blackSeconds", title: "s Black", value: game => game.spent[0] ?? -1, isNumber: true},
   {key: "whiteSeconds", title: "s White", value: game => game.spent[1] ?? -1, isNumber: true},
   {key: "restarts", title: "restarts", value: restartsOf, isNumber: true},
-  {key: "ended", title: "ended", value: game => game.ended, isNumber: true},
+  {key: "ended", title: "ended, UTC", value: game => game.ended, isNumber: true},
 ];
 const table = {key: "seed", isDown: false, first: 0, found: [], isBlamed: false};
+
+// By the end of a game its verdict is sorted: who won, then who forfeited, then nobody.
+const ENDS = ["score", "resignation", "time", "forfeit", "limit", "unfit", "abandoned", "late"];
+
+// Returns a text by which verdicts are sorted: a score from Black's greatest win to White's, a draw
+// between them, and then all else by its end.
+function orderOf(game) {
+  const isScore = ["score", "draw"].includes(game.kind), end = ENDS.indexOf(game.kind);
+  const points = game.winner < 0 ? 0 : Number(game.verdict.slice(2)) * (game.winner ? 1 : -1);
+  if (isScore) return `0 ${(5000 + points).toFixed(1)}`;
+  return `${end < 0 ? ENDS.length : end} ${game.verdict}`;
+}
 
 // Returns whether a game is one of those that the filter asks for.
 function filterOf() {
@@ -114,11 +126,10 @@ function filterOf() {
 // Shows the games that the filter asks for.
 function showGames() {
   const {value} = COLUMNS.find(column => column.key === table.key), sign = table.isDown ? -1 : 1;
-  table.found = games.filter(filterOf());
-  table.found.sort((one, other) => {
-    const [x, y] = [value(one), value(other)];
-    return sign * (x < y ? -1 : x > y ? 1 : 0) || one.place - other.place;
-  });
+  const found = games.filter(filterOf()).map(game => [value(game), game]);
+  found.sort(([x, one], [y, other]) =>
+    sign * (x < y ? -1 : x > y ? 1 : 0) || one.place - other.place);
+  table.found = found.map(([, game]) => game);
   const last = Math.max(0, Math.floor((table.found.length - 1) / ROWS) * ROWS);
   table.first = Math.min(table.first, last);
   showRows();
@@ -159,11 +170,9 @@ function rowOf(game) {
     cell(timeOf(game.ended), "number"));
 }
 
-// Returns a time of this machine.
+// Returns a time in UTC, as all of the page has it.
 function timeOf(seconds) {
-  const time = new Date(1000 * seconds);
-  const local = new Date(time - 60000 * time.getTimezoneOffset());
-  return local.toISOString().slice(0, 16).replace("T", " ");
+  return new Date(1000 * seconds).toISOString().slice(0, 16).replace("T", " ");
 }
 
 // ---- the filter

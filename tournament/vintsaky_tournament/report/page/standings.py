@@ -22,7 +22,7 @@ OUTCOMES = ("0", "0.5", "1", "1.5", "2")
 def by_engine(engine: str, text: Child, other: str = "") -> Html:
     """Returns a link to the games of an engine, perhaps only to those against another one."""
     address = f"#engine={quote(engine)}" + (f"&other={quote(other)}" if other else "")
-    return tag("a", text, href=address)
+    return tag("a", text, data_to=address)
 
 
 def to(low: str, high: str) -> str:

@@ -42,21 +42,30 @@ function heedAddress() {
   }
 }
 
+const playing = root => [...root.querySelectorAll(".playing .game")];
+const smallBoardOf = link => link.parentNode.querySelector(".mini");
+
 // Shows small boards of the games in play.
 async function showPlaying() {
   if (!data.moves) return;
-  for (const link of document.querySelectorAll(".playing .game")) {
+  for (const link of playing(document)) {
     const game = byName.get(link.textContent);
     if (game) {
       const positions = positionsOf(await recordOf(game));
-      const small = boardOf(positions[positions.length - 1]);
+      const small = boardOf(positions[positions.length - 1]), before = smallBoardOf(link);
       small.classList.add("mini");
-      link.parentNode.append(small);
+      if (before) before.replaceWith(small); else link.parentNode.append(small);
     }
   }
 }
 
+// Makes links of what only this script can show.
+function showLinks() {
+  for (const link of document.querySelectorAll("a[data-to]")) link.href = link.dataset.to;
+}
+
 function showData() {
+  showLinks();
   takeData(byId("data").textContent);
   fillFilter();
   showGames();
@@ -79,6 +88,9 @@ async function textOfServer(path) {
 async function replaceParts() {
   const fresh = new DOMParser().parseFromString(await textOfServer("page"), "text/html");
   const open = [...document.querySelectorAll("[data-live] details[open]")].map(nameOf);
+  // small boards stay until there are new ones
+  const boards = new Map(playing(document).map(link => [link.textContent, smallBoardOf(link)]));
+  for (const link of playing(fresh)) link.parentNode.append(boards.get(link.textContent) || "");
   const sections = [...fresh.querySelectorAll("[data-live]")].map(it => document.adoptNode(it));
   document.querySelectorAll("[data-live], script[id^=moves]").forEach(it => it.remove());
   byId("games").before(...sections);

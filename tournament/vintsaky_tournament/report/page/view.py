@@ -13,16 +13,19 @@ from ...stats.summary import Counts, EngineRow, Summary
 from ...store.left_out import Decided
 from .courses import Course
 from .games import Gathered
+from .rates import is_running
 
 
 class Asked(NamedTuple):
-    """What is asked for: a folder, how its games count, and a test. Pages may leave out moves."""
+    """What is asked for: a folder, how its games count, and a test. Pages may leave out moves, and
+    that of a run that goes on knows so."""
 
     folder: str
     rules: Rules
     leave_out_undecided: bool = False
     test: TestRequest | None = None
     has_moves: bool = True
+    is_played: bool = False
 
 
 class Rated(NamedTuple):
@@ -45,6 +48,7 @@ class View:
         self.standings = self.summary.standings()
         known = before.gathered if before else None
         self.gathered: Gathered = Gathered(self.counts, asked.rules, known)
+        self.is_running = asked.is_played or is_running(self.gathered)
         self.ranking = self.ranked()
         self.order: Sequence[EngineRow] = [rated.row for rated in self.ranking]
         self.test = self.test_of(asked)
