@@ -302,45 +302,6 @@ def test_note_says_which_lengths_are_counted(
     assert note == said
 
 
-# ---- failures
-
-
-def test_failures_by_cause(runner: Runner) -> None:
-    folder = runner.folder / "all"
-    write_plan(folder, "ab", 5)
-    forfeit = f"W+F(illegal move) {ENDED}"
-    write_results(folder, {"1_a_b": forfeit, "2_a_b": forfeit, "3_a_b": f"abandoned white {ENDED}"})
-    for name in ("logs", "notes"):
-        (folder / name).mkdir()
-    for game, number in (("1_a_b", 7), ("2_a_b", 99)):
-        (folder / "logs" / game).write_text(f"noise\ntwogtp: game 1: black: at {number} it lied\n")
-    (folder / "notes/3_a_b").write_text(
-        f"3_a_b on x\n9 white late 5.001: 12 genmove w\nresult: abandoned white {ENDED}\n"
-    )
-    for game, side, command in (
-        ("1_b_a", "white", "53 genmove w"),
-        ("5_a_b", "black", "4 genmove b"),
-    ):
-        verdict = f"abandoned {side} {ENDED}"
-        write_results(folder, {game: verdict})
-        (folder / "notes" / game).write_text(
-            f"{game} on x\n30 {side} ended 0.2: {command}: exit status 4\nresult: {verdict}\n"
-        )
-    (folder / "logs/4_a_b").write_text("noise\ntournament: nobody came\n")
-    done = runner.tournament("page", "all", "-o", "page.html")
-    assert done == (1, "page.html\n", "")
-    page = read(runner.folder / "page.html")
-    text = page.texts["failures"]
-    # both forfeits have one cause, whose numbers differ
-    assert text.count("it lied: 2 games") == 1
-    assert "a F(illegal move): 2 games" in text
-    assert "b late: 1 game" in text and "no answer to genmove within the limit: 1 game" in text
-    assert text.count("it ended at genmove: exit status 4: 2 games") == 1
-    assert "no result: 1 game" in text and "nobody came" in text
-    links = [element.attributes.get("href") for element in page.elements if element.name == "a"]
-    assert "all/logs/1_a_b" in links and "all/notes/3_a_b" in links
-
-
 # ---- what others write
 
 

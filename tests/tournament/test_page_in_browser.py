@@ -108,7 +108,13 @@ def written(shared_runner: Runner) -> Path:
     (folder / "notes/1_b_a").write_text(
         "1_b_a on here\n2 white A2 0.000\nresult: W+F(illegal move) moves 2 restarts 0 0\n"
     )
+    (folder / "logs").mkdir()
+    (folder / "logs/1_b_a").write_text("oh no\ntwogtp: game 1: black: A2 isn't empty\n")
     write_result(folder, "2_a_b", "limit moves 4 restarts 1 0", "A1 A2 A3 B1")
+    (folder / "notes/2_a_b").write_text(
+        "2_a_b on here\n3 black ended 0.5: 7 genmove b: signal 9\n"
+        "result: limit moves 4 restarts 1 0\n"
+    )
     shared_runner.tournament("page", "written")
     return folder / "page.html"
 
@@ -152,6 +158,25 @@ USES: Dict[str, Tuple[str, Any]] = {
     "no time": (
         'await open("1_b_a"); return said()',
         "2 of 2: White A2, 0.000 s. The end: W+F(illegal move)",
+    ),
+    "why": (
+        'await open("1_b_a"); return document.querySelector(".why").textContent',
+        "b: forfeit (illegal move): A2 isn't empty; the engines' last line in the log: oh no"
+        " log notes",
+    ),
+    "restarts": (
+        'await open("2_a_b"); const [button] = all(".faults button"); click(button);'
+        ' return [button.textContent, said(), all("#spent .failure").length]',
+        [
+            "3",
+            "3 of 4: Black A3. Before it a failed: it ended at genmove: signal 9",
+            1,
+        ],
+    ),
+    "files": (
+        'const link = it => [it.textContent, it.getAttribute("href")]; set("by-kind", "failed");'
+        ' return all("#list tbody td a").map(link)',
+        [["log", "logs/1_b_a"], ["notes", "notes/1_b_a"]],
     ),
     "next game": (
         'await open("1_a_b"); press("]"); const name = byId("viewer-name");'

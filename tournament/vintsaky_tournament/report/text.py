@@ -45,8 +45,8 @@ class Table:
         replaced = replaced_in(self.counts.folder)
         blames += [f"  {found.engine}: {found.text}" for found in replaced]
         yield from ["to look into:", *blames] if blames else []
-        if have < all_games:
-            yield f"no result: {all_games - have}"
+        if self.counts.missing:
+            yield f"no result: {self.counts.missing}"
         yield from (f"  {name}: {reason}" for name, reason in without_result(self.counts))
 
     def of_engines(self) -> Iterator[str]:

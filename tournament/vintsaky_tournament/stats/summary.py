@@ -122,6 +122,11 @@ class Counts:
         left_out = Decided(self.folder, asked.text()).games(self.games)
         return Test(self.pairs, asked, self.has_failed, left_out)
 
+    @property
+    def missing(self) -> int:
+        """Returns the number of games without a result, be it that nobody has played them yet."""
+        return self.games.count - self.have
+
     def damaged(self) -> int:
         """Returns the number of damaged files."""
         return self.states.count(State.DAMAGED)

@@ -159,6 +159,27 @@ class Notes:
         return texts.get(event) or self.failure(side)
 
 
+class Fault(NamedTuple):
+    """An engine that ended, or wasn't waited for any longer."""
+
+    move: int  # the number of the next move
+    side: Side
+    cause: str  # as `Notes.cause` has it
+
+
+def faults_in(text: str) -> list[Fault]:
+    """Returns each fault that the notes of a game have, in their order."""
+    noted, found = Notes(""), []
+    for line in text.split("\n"):
+        words = line.split(" ")
+        if len(words) > 2 and words[0].isdigit() and words[1] in COLOURS:
+            side = SIDES[COLOURS.index(words[1])]
+            if words[2] in UNANSWERED:
+                noted.add(side, words)
+                found.append(Fault(int(words[0]), side, noted.cause(side)))
+    return found
+
+
 def date_of(text: str) -> str:
     """Returns when a game began, by the second line of its notes; an empty text where that isn't
     noted."""

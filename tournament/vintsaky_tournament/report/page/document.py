@@ -9,7 +9,7 @@ from . import details, standings
 from .failures import Failures
 from .files import OF_BOARD, as_data, filled, policy, script, style, text_of
 from .games import ALL_KINDS, Game
-from .markup import Child, Html, counted, inner, tag
+from .markup import Child, Html, counted, inner, tag, visible
 from .packed import CHUNK, FIRST, GROWTH, chunks_of
 from .view import View
 
@@ -27,7 +27,8 @@ class Section(NamedTuple):
 
 def document(view: View, base: str, is_served: bool = False) -> str:
     """Returns the page. `base` is the folder as seen from there, for links to logs and notes."""
-    shown = list(sections(view, Failures(view.gathered, base)))
+    failures = Failures(view.gathered, base)
+    shown = list(sections(view, failures))
     games = [*view.gathered.ended, *playing_in(view)]
     style_text, script_text = style(), script(SCRIPTS)
     title = tag("span", name_of(view))
@@ -50,7 +51,7 @@ def document(view: View, base: str, is_served: bool = False) -> str:
         "SECTIONS": "\n".join(map(of_section, shown)),
         "ROWS": plain_rows(view),
         "VIEWER": text_of("viewer.html"),
-        "DATA": "\n".join(data_of(view, games)),
+        "DATA": "\n".join(data_of(view, games, failures)),
         "STYLE": style_text,
         "SCRIPT": script_text,
     }
@@ -114,9 +115,10 @@ def plain_rows(view: View) -> Html:
 # ---- the data for the script
 
 
-def data_of(view: View, games: Sequence[Game]) -> Iterator[Html]:
+def data_of(view: View, games: Sequence[Game], failures: Failures) -> Iterator[Html]:
     """Yields the elements that have what the script needs: columns of numbers, and the moves."""
-    yield tag("script", as_data(columns_of(view, games)), type="application/json", id="data")
+    columns = {**columns_of(view, games), **columns_of_failures(games, failures)}
+    yield tag("script", as_data(columns), type="application/json", id="data")
     if view.asked.has_moves:
         for at, chunk in enumerate(chunks_of(games, view.gathered.size)):
             yield tag("script", chunk, type="text/plain", id=f"moves{at}")
@@ -163,6 +165,29 @@ def rare_columns(games: Sequence[Game]) -> dict[str, dict[int, object]]:
         "dead": {at: game.dead for at, game in enumerate(games) if game.dead},
         "other": {at: game.other_verdict for at, game in enumerate(games) if game.other_verdict},
     }
+
+
+def columns_of_failures(games: Sequence[Game], failures: Failures) -> dict[str, object]:
+    """Returns what the script has to know of games in which an engine failed, by their places:
+    their files, why a side failed, and before which moves engines ended. A text is there once."""
+    texts: dict[str, int] = {}
+    files: dict[int, int] = {}
+    why: dict[int, int] = {}
+    faults: dict[int, list[list[int]]] = {}
+    for place, game in enumerate(games):
+        if game.has_files:
+            name = failures.gathered.name(game)
+            files[place] = failures.files_of(name)
+            said = visible(failures.said_of(name))
+            if said:
+                why[place] = texts.setdefault(said, len(texts))
+            if game.noted.faults:
+                faults[place] = [
+                    [fault.move, fault.side, texts.setdefault(visible(fault.cause), len(texts))]
+                    for fault in game.noted.faults
+                ]
+    named = {"files": files, "why": why, "faults": faults}
+    return {**named, "texts": list(texts), "folder": failures.base}
 
 
 def seconds_in(game: Game, side: Side) -> float | None:

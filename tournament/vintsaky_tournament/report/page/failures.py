@@ -10,12 +10,18 @@ from ...model import Side
 from ...stats.summary import without_result
 from ...store import notes
 from .games import Gathered
-from .markup import Child, Html, behind, counted, joined, tag
+from .markup import Child, Html, behind, counted, inner, joined, tag
 
 MOST_CAUSES, MOST_NAMED, MOST_LOOKED_AT = 5, 4, 500  # of the failures of one engine
+MOST_WITHOUT_RESULT = 100  # games that are named of each cause
 NO_RESULT = "no result"
 END_OF_LOG = 2500  # bytes of a log that the page has
-CHANGING = re.compile(r"\x1b\[[0-9;]*m|[0-9]+")  # colours, and numbers: causes are alike without
+MOST_QUOTED = 200  # characters of its last line
+OF_SCRIPTS = ("twogtp: ", "tournament: ")  # with which lines of a log begin that no engine wrote
+FILES = ("logs", "notes")
+COLOUR = re.compile(r"\x1b\[[0-9;]*m")
+CHANGING = re.compile(rf"{COLOUR.pattern}|[0-9]+")  # causes are alike without these
+CUT = "[..]"
 UNKNOWN = "its cause isn't known"
 
 
@@ -43,6 +49,7 @@ class Failures:
         self.gathered, self.folder, self.base = gathered, gathered.folder, base
         self.reasons = dict(without_result(gathered.counts))
         self.sides: dict[str, Side | None] = {}
+        self.causes_of: dict[str, str] = {}  # of the games that were looked at
         self.groups = self.found()
         self.count = sum(len(group.games) for group in self.groups)
 
@@ -61,9 +68,15 @@ class Failures:
         return [Group(*key, games) for key, games in groups.items()]
 
     def cause(self, name: str) -> str:
-        """Returns why a side failed in a game, or why it has no result, in a line."""
-        if name in self.reasons:
-            return self.reasons[name]
+        """Returns why a side failed in a game, or why it has no result, in a line; an empty one
+        where nobody knows."""
+        known = self.causes_of.get(name)
+        if known is None:
+            known = self.causes_of[name] = self.reasons.get(name) or self.cause_of_failure(name)
+        return known
+
+    def cause_of_failure(self, name: str) -> str:
+        """Returns the same of a game in which a side failed, by its notes or its log."""
         side = self.sides.get(name)
         assert side is not None
         noted = notes.read(f"{self.folder}/notes/{name}")
@@ -83,7 +96,28 @@ class Failures:
                 text = os.fsdecode(file.read())
         except OSError:
             return ""
-        return f"[..]\n{text}" if size > END_OF_LOG else text
+        return f"{CUT}\n{text}" if size > END_OF_LOG else text
+
+    def last_line(self, name: str) -> str:
+        """Returns the last line of a game's log that an engine wrote; an empty one without any."""
+        lines = [COLOUR.sub("", line).strip() for line in self.log(name).split("\n")]
+        found = [line for line in lines if line and not line.startswith((*OF_SCRIPTS, CUT))]
+        return found[-1][:MOST_QUOTED] if found else ""
+
+    def said_of(self, name: str) -> str:
+        """Returns why a side failed in a game, with the last line that an engine wrote; an empty
+        text if the game isn't one of those that are looked at."""
+        if name not in self.causes_of:
+            return ""
+        last = self.last_line(name)
+        quoted = f"the engines' last line in the log: {last}" if last else ""
+        return "; ".join(filter(None, [self.causes_of[name], quoted]))
+
+    def files_of(self, name: str) -> int:
+        """Returns which files of a game have something in them: 1 for its log, 2 for its notes."""
+        return sum(
+            1 << at for at, kind in enumerate(FILES) if has_content(f"{self.folder}/{kind}/{name}")
+        )
 
     def causes(self, group: Group) -> list[Cause]:
         """Returns the causes of failures, the most frequent one first."""
@@ -97,15 +131,19 @@ class Failures:
 
     def html(self) -> Html:
         """Returns all failures."""
-        return tag("div", [self.of_group(group) for group in self.groups], class_="failures")
+        text = (
+            "Logs and notes are files of the tournament's folder: their links lead there from "
+            "where this page was written."
+        )
+        groups = tag("div", [self.of_group(group) for group in self.groups], class_="failures")
+        return inner([groups, tag("p", text, class_="note")])
 
     def of_group(self, group: Group) -> Html:
         """Returns the failures of one engine in one way."""
         causes = self.causes(group)
-        count: Child = counted(len(group.games))
+        count: Child = self.count_without_result()
         if group.engine:
-            address = f"#engine={quote(group.engine)}&kind={quote(group.kind)}&blamed=1"
-            count = tag("a", count, data_to=address)
+            count = tag("a", counted(len(group.games)), data_to=address_of(group))
         head = [
             tag("strong", group.engine or group.way),
             f" {group.way}: " if group.engine else ": ",
@@ -119,12 +157,20 @@ class Failures:
             class_="failure",
         )
 
+    def count_without_result(self) -> str:
+        """Returns how many games have no result, as the tally has it, and how many failed."""
+        missing, failed = self.gathered.counts.missing, len(self.reasons)
+        return counted(missing) + (f", {failed} of them failed" if failed < missing else "")
+
     def of_cause(self, group: Group, cause: Cause) -> Html:
         """Returns the games of a cause, of which some are named, and the log of the first one."""
-        named = [self.of_game(name, bool(group.engine)) for name in cause.games[:MOST_NAMED]]
-        more = len(cause.games) - MOST_NAMED
+        most = MOST_NAMED if group.engine else MOST_WITHOUT_RESULT
+        named = [self.of_game(name, bool(group.engine)) for name in cause.games[:most]]
+        more = len(cause.games) - most
         if more > 0:
-            named.append(tag("li", f"and {more} more"))
+            text = f"and {more} more"
+            link = tag("a", text, data_to=address_of(group)) if group.engine else text
+            named.append(tag("li", link))
         first = cause.games[0]
         log = self.log(first)
         return tag(
@@ -137,14 +183,28 @@ class Failures:
 
     def of_game(self, name: str, has_board: bool) -> Html:
         """Returns a game with links to its board, its log and its notes."""
-        links = [link for kind in ("logs", "notes") for link in self.links(kind, name)]
+        links = list(self.links(name))
         where: Child = tag("a", name, data_to=f"#game={quote(name)}") if has_board else name
-        return tag("li", where, [" (", *joined(links), ")"] if links else None)
+        return tag("li", where, [" (", *joined(links), ")"])
 
-    def links(self, kind: str, name: str) -> Iterator[Html]:
-        """Yields a link to a file of a game, if it is there."""
-        if os.path.exists(f"{self.folder}/{kind}/{name}"):
-            address = f"{self.base}{kind}/{quote(name)}"
-            yield tag(
-                "a", kind.rstrip("s") if kind == "logs" else kind, href=address, target="_blank"
-            )
+    def links(self, name: str) -> Iterator[Child]:
+        """Yields a link to each file of a game, and says where there is no log."""
+        files = self.files_of(name)
+        for at, (kind, text) in enumerate(zip(FILES, ("log", "notes"))):
+            if files >> at & 1:
+                yield tag("a", text, href=f"{self.base}{kind}/{quote(name)}", target="_blank")
+            elif kind == "logs":
+                yield "no log"
+
+
+def address_of(group: Group) -> str:
+    """Returns the address that filters the games of a group."""
+    return f"#engine={quote(group.engine)}&kind={quote(group.kind)}&blamed=1"
+
+
+def has_content(place: str) -> bool:
+    """Returns whether there is a file in this place with something in it."""
+    try:
+        return os.stat(place).st_size > 0
+    except OSError:
+        return False

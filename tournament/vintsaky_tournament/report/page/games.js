@@ -19,7 +19,10 @@ function takeData(text) {
       winner: data.winner[place], blamed: data.blamed[place] ?? null, count: data.count[place],
       spent: [data.black[place], data.white[place]], ended: data.began + ended[place],
       restarts: data.restarts[place] || [0, 0], dead: data.dead[place] || [],
-      other: data.other[place] || "",
+      other: data.other[place] || "", files: data.files[place] ?? null,
+      why: data.texts[data.why[place]] || "",
+      faults: (data.faults[place] || []).map(([move, side, text]) =>
+        ({move, side, text: data.texts[text]})),
     };
   });
   byName = new Map(games.map(game => [game.name, game]));
@@ -55,14 +58,31 @@ async function recordOf(game) {
     });
   }
   const engines = [data.engines[game.black], data.engines[game.white]];
+  const blamed = game.blamed === null ? null : `${engines[game.blamed]}: ${causeOf(game)}`;
   const other = game.other ? ` (by twogtp ${game.other})` : "";
   const ended = `${game.verdict}${other}, ${game.count} moves`;
   return {
     name: game.name, title: `${engines.join(" - ")}, seed ${game.seed}`, engines, size, steps,
     komi: data.komi, handicap: data.handicap, black: handicapPoints(size, data.handicap), white: [],
     first: opener, spent: game.spent, dead: game.dead, ended, result: resultOf(game),
+    faults: game.faults, why: [blamed, game.why].filter(Boolean).join(": "), files: filesOf(game),
     atEnd: game.kind === "in play" ? "In play" : `The end: ${game.verdict}`,
   };
+}
+
+// Returns how a side failed, in the words of the tally.
+function causeOf(game) {
+  return game.kind === "forfeit" ? `forfeit (${game.verdict.slice(4, -1)})` : game.kind;
+}
+
+// Returns links to the log and the notes of a game in which an engine failed, where they are.
+function filesOf({name, files}) {
+  if (files === null) return [];
+  const found = [["logs", "log"], ["notes", "notes"]].map(([kind, text], at) => {
+    const href = `${data.folder}${kind}/${encodeURIComponent(name)}`;
+    return files >> at & 1 ? make("a", {href, target: "_blank"}, text) : at ? null : "no log";
+  });
+  return found.filter(Boolean).flatMap(each => [" ", each]);
 }
 
 // Returns the result of a game as SGF has it.
@@ -165,7 +185,8 @@ function rowOf(game) {
   const restarts = restartsOf(game) ? game.restarts.join(" / ") : "";
   return make("tr", {}, make("th", {scope: "row", class: "number"}, link),
     engine(0, game.black), engine(1, game.white),
-    cell(game.verdict, FAILED.includes(game.kind) ? "bad" : null), cell(game.kind),
+    cell(game.verdict, FAILED.includes(game.kind) ? "bad" : null),
+    make("td", {}, game.kind, ...(FAILED.includes(game.kind) ? filesOf(game) : [])),
     cell(game.count, "number"), ...game.spent.map(seconds), cell(restarts, "number"),
     cell(timeOf(game.ended), "number"));
 }

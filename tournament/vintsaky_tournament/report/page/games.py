@@ -48,6 +48,7 @@ class Noted(NamedTuple):
     others: tuple[Sequence[int], Sequence[int]] = ((), ())  # of Black's and White's answers beside
     seconds: tuple[float, float] | None = None  # of both sides
     host: str = ""
+    faults: Sequence[notes.Fault] = ()
 
 
 class Game(NamedTuple):
@@ -75,6 +76,11 @@ class Game(NamedTuple):
     def has_failed(self) -> bool:
         """Returns whether a side failed in it."""
         return self.kind in FAILED
+
+    @property
+    def has_files(self) -> bool:
+        """Returns whether its log and its notes are of interest: an engine failed in it."""
+        return self.has_failed or any(self.restarts)
 
 
 class Reader:
@@ -123,6 +129,9 @@ class Reader:
         data = None
         if not self.plan.is_direct:
             data = notes.bytes_for(self.folder, name, result.line)
+        noted = self.noted(data, result.length)
+        if data and (ending.blamed is not None or any(restarts)):
+            noted = noted._replace(faults=notes.faults_in(data.decode("latin-1")))
         return Game(
             number=number,
             verdict=verdict,
@@ -131,7 +140,7 @@ class Reader:
             blamed=ending.blamed,
             restarts=restarts,
             moves=array("H", [self.numbers[vertex] for vertex in result.vertices.split()]),
-            noted=self.noted(data, result.length),
+            noted=noted,
             ended=stamp[0] / 1e9,
             dead=self.dead_in(name, result),
             other_verdict=result.verdict if result.verdict != verdict else "",

@@ -52,5 +52,4 @@ def rate_of(gathered: Gathered, ends: Sequence[float]) -> Rate | None:
     lately, minutes = sum(end > since for end in ends), (gathered.now - since) / 60
     if not lately or minutes <= 0:
         return None
-    left = gathered.names.count - len(gathered.ended)
-    return Rate(lately / minutes, left * minutes / lately)
+    return Rate(lately / minutes, gathered.counts.missing * minutes / lately)

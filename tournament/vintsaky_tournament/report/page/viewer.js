@@ -1,6 +1,7 @@
 // The viewer of a game. A game has a name, a title, the engines, the size, the komi, the stones of
 // both sides at first, and steps: each a move of a side with its seconds, or `undo`, or one that
-// was `refused`, or a new `board`. Any step may have a text.
+// was `refused`, or a new `board`. Any step may have a text. A game may have `faults`, each of a
+// side before a move and with a text, say `why` a side failed, and have links to `files`.
 
 // Returns the positions of a game: at first, and after each step.
 function positionsOf(game) {
@@ -35,7 +36,7 @@ function makeViewer({another, moved}) {
     stop();
     shown = {game, positions: positionsOf(game), move: 0};
     byId("viewer-name").textContent = game.title;
-    byId("players").replaceChildren(...playersOf(game));
+    byId("players").replaceChildren(...playersOf(game, go));
     byId("slider").max = game.steps.length;
     byId("spent").replaceChildren(...secondsOf(game, go));
     const dialog = byId("viewer");
@@ -127,12 +128,26 @@ function makeViewer({another, moved}) {
   return {open, stop, shown: () => shown};
 }
 
-// Returns the two sides, and how the game ended.
-function playersOf(game) {
+// Returns the two sides, how the game ended, and where engines failed in it.
+function playersOf(game, go) {
   const lines = [0, 1].map(side => make("p", {class: `player ${KINDS[side + 1]}`},
     make("i"), make("strong", {}, game.engines[side]), make("span", {id: `captured${side}`}),
     make("span", {}, game.spent[side] === null ? "" : `${inSeconds(game.spent[side])} s`)));
-  return [...lines, make("p", {class: "verdict"}, game.ended)];
+  const buttons = faultsIn(game).map(({move, side, text}) => {
+    const button = make("button", {type: "button", title: `${game.engines[side]}: ${text}`}, move);
+    button.addEventListener("click", () => go(move));
+    return button;
+  });
+  const restarts = buttons.length ? make("p", {class: "faults"}, "started again at move ") : "";
+  if (restarts) restarts.append(...buttons.flatMap(button => [button, " "]));
+  const files = game.files || [];
+  const why = game.why || files.length ? make("p", {class: "why"}, game.why, ...files) : "";
+  return [...lines, make("p", {class: "verdict"}, game.ended), why, restarts];
+}
+
+// Returns the faults after which an engine was started again, and played on.
+function faultsIn(game) {
+  return (game.faults || []).filter(fault => fault.move <= game.steps.length);
 }
 
 // Returns what is said of a position: the move that led to it, and what came of that.
@@ -149,6 +164,9 @@ function textOf(game, position, move) {
     if (step.refused) parts.push(" is refused");
     else if (step.move !== undefined && position.taken) parts.push(`, captures ${position.taken}`);
   }
+  for (const fault of faultsIn(game).filter(fault => fault.move === move)) {
+    parts.push(`. Before it ${game.engines[fault.side]} failed: ${fault.text}`);
+  }
   if (position.ko !== null) parts.push(`; ko at ${vertexOf(position.size, position.ko)}`);
   if (step && step.text) parts.push(`. ${step.text}`);
   if (move === game.steps.length) parts.push(`. ${game.atEnd}`);
@@ -163,7 +181,7 @@ function numbersOf(position) {
 // Returns the picture of the seconds of each move: Black's upwards, White's downwards.
 function secondsOf(game, go) {
   const known = game.steps.map(step => step.seconds ?? 0), most = Math.max(0, ...known);
-  if (!most) return [];
+  if (!most && !faultsIn(game).length) return [];
   const width = 300, middle = 25, wide = width / known.length;
   const bars = known.map((seconds, at) => {
     const height = seconds ? Math.max(1, 24 * Math.sqrt(seconds / most)) : 0;
@@ -171,6 +189,10 @@ function secondsOf(game, go) {
     const place = {x: wide * at, y, width: Math.max(0.5, wide - 0.4), height};
     return draw("rect", {...place, class: `bar ${KINDS[side || 0]}`, "data-move": at + 1});
   });
+  for (const {move} of faultsIn(game)) {
+    const x = wide * (move - 1);
+    bars.push(draw("line", {x1: x, x2: x, y1: 0, y2: 2 * middle, class: "failure"}));
+  }
   const title = draw("title", {}, `the seconds of each move, up to ${inSeconds(most)}: Black's up`);
   const size = {viewBox: `0 0 ${width} 50`, preserveAspectRatio: "none", role: "img"};
   const picture = draw("svg", size, title, ...bars);
