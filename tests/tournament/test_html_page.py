@@ -134,6 +134,38 @@ def test_numbers_are_those_of_the_tally(write: Write, rules: List[str], runner: 
         assert cell.startswith(f"{pair['won']}-{pair['lost']}" if pair["games"] else "")
 
 
+def test_who_is_best_and_how_sure_that_is(runner: Runner) -> None:
+    # the score is 0.5625, and by R its interval from 0.5095 to 0.6145: the middle of that is 0.562,
+    # its standard error 0.105 / 2 / 1.96 = 0.0268, and a half is 2.314 of these below, which the
+    # normal distribution has above it in 98.97 % of cases
+    write_pairs(runner.folder / "all", pairs_of((10, 20, 40, 30, 20)))
+    page = page_of(runner)
+    assert "a is best: 99.0 % sure that it is stronger than b, the next" in page.texts["ranking"]
+    assert [row[4] for row in page.rows["ranking"][1:]] == ["99.0 %", ""]
+
+
+@pytest.mark.parametrize(
+    "write, said",
+    [
+        (lambda folder: write_pairs(folder, [EVEN] * 3), "a leads, but only 50.0 % sure that it"),
+        (lambda folder: write_pairs(folder, [LOST] * 60), "b is best: more than 99.9 % sure that"),
+        (three, None),
+        (apart, ""),
+        (lambda folder: write_pairs(folder, [NONE]), ""),
+    ],
+    ids=["even", "all lost", "three engines", "two groups", "no game"],
+)
+def test_sentence_on_the_best(write: Write, said: Optional[str], runner: Runner) -> None:
+    write(runner.folder / "all")
+    page = page_of(runner)
+    found = re.findall(r'<p class="best">(.*?)</p>', page.text)
+    if said is None:  # the tally's number
+        first, second = json.loads(runner.tally("all", "--json").output)["ratings"][:2]
+        chance, other = f"{100 * first['better_than_next']:.1f} %", second["engine"]
+        said = f"{first['engine']} leads, but only {chance} sure that it is stronger than {other}"
+    assert len(found) == bool(said) and "".join(found).startswith(said)
+
+
 def test_two_engines_are_ranked_by_their_pairs(runner: Runner) -> None:
     write_pairs(runner.folder / "all", pairs_of((10, 20, 40, 30, 20)))
     ranking = page_of(runner).rows["ranking"]

@@ -74,7 +74,8 @@ def test_viewer_is_told_why_and_where_engines_failed(runner: Runner) -> None:
     write_result(folder, "1_a_b", verdict, "A1 B2")
     (folder / "notes/1_a_b").write_text(
         "1_a_b on x\n1 black A1 0.1\n2 white ended 0.2: 4 genmove w: signal 11\n"
-        f"0 white started 0.1\n2 white B2 0.1\n3 white ended 0.1: 9 play b C3: exit status 4\nresult: {verdict}\n"
+        "0 white started 0.1\n2 white B2 0.1\n3 white ended 0.1: 9 play b C3: exit status 4\n"
+        f"result: {verdict}\n"
     )
     (folder / "logs/1_a_b").write_text("loading\n\x1b[31mout of\x1b[0m luck\ntwogtp: game 1: x\n")
     write_result(folder, "1_b_a", "W+F(no move) moves 1 restarts 0 0", "A1")

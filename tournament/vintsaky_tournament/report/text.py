@@ -14,9 +14,10 @@ from ..stats.scored import Scored
 from ..stats.scores import Cluster
 from ..stats.sprt import Test
 from ..stats.standings import Leader
-from ..stats.summary import EngineRow, PairingRow, Row, Summary, without_result
+from ..stats.summary import Best, EngineRow, PairingRow, Row, Summary, without_result
 
 MOST_GROUPS = 10  # of games that are the same
+SURE, MOST_SURE = 0.95, 0.999  # from which chance on an engine is called the best, and what is said
 NO_PAIRS = "    -  -                 -"
 
 
@@ -198,6 +199,15 @@ def of_score(every: tuple[int, ...], clusters: tuple[tuple[Cluster, int], ...]) 
 def whole(elo: float) -> str:
     """Returns a difference in Elo without decimals."""
     return f"{elo:+}" if math.isinf(elo) else f"{round(elo):+}"
+
+
+def line_of_best(best: Best) -> str:
+    """Returns who is best, and how sure that is."""
+    engine, other, better = best
+    sure = f"{100 * better:.1f} %" if better < MOST_SURE else f"more than {100 * MOST_SURE:.1f} %"
+    if better >= SURE:
+        return f"{engine} is best: {sure} sure that it is stronger than {other}, the next"
+    return f"{engine} leads, but only {sure} sure that it is stronger than {other}, the next"
 
 
 def line_of_leader(first: Leader) -> str:

@@ -189,6 +189,10 @@ class PairCounts:
         """Returns the 95 % interval of the score; None where there is no pair."""
         return scores.interval(self.clusters) if self.clusters else None
 
+    def better(self) -> float | None:
+        """Returns how likely it is that the engine is better; None where there is no pair."""
+        return scores.better(self.clusters) if self.clusters else None
+
     def estimate(self) -> Estimate | None:
         """Returns the score and its interval as differences in Elo; None where there is no pair."""
         score, interval = self.score(), self.interval()

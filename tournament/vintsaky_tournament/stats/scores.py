@@ -60,8 +60,15 @@ def moments(counts: Sequence[float]) -> tuple[float, float]:
     return mean, sum(count * (at / 4 - mean) ** 2 for at, count in enumerate(counts)) / total
 
 
-def interval(clusters: Mapping[Cluster, int]) -> tuple[float, float]:
-    """Returns the 95 % interval of the score: 1.96 standard errors to each side.
+class Normal(NamedTuple):
+    """A score as a normal distribution: its mean, and its standard error."""
+
+    mean: float
+    error: float
+
+
+def normal(clusters: Mapping[Cluster, int]) -> Normal:
+    """Returns how sure a score is.
 
     It is given the number of clusters of each kind: pairs that repeat an earlier one are a cluster
     with it, and others are alone. One cluster is added, as large as a pair's is on average, half of
@@ -75,8 +82,19 @@ def interval(clusters: Mapping[Cluster, int]) -> tuple[float, float]:
     mean = (won + added / 2) / (pairs + added)
     squares = sum(count * (won / 4 - size * mean) ** 2 for (size, won), count in clusters.items())
     squares += added**2 * (mean**2 + (1 - mean) ** 2) / 2
-    half = Z * math.sqrt(squares / (pairs + added) / pairs)
-    return max(0.0, mean - half), min(1.0, mean + half)
+    return Normal(mean, math.sqrt(squares / (pairs + added) / pairs))
+
+
+def interval(clusters: Mapping[Cluster, int]) -> tuple[float, float]:
+    """Returns the 95 % interval of the score: 1.96 standard errors to each side."""
+    mean, error = normal(clusters)
+    return max(0.0, mean - Z * error), min(1.0, mean + Z * error)
+
+
+def better(clusters: Mapping[Cluster, int]) -> float:
+    """Returns how likely it is that the score is above a half."""
+    mean, error = normal(clusters)
+    return math.erfc((0.5 - mean) / error / math.sqrt(2)) / 2
 
 
 def alone(counts: Sequence[int]) -> dict[Cluster, int]:

@@ -180,6 +180,14 @@ class Blame(NamedTuple):
     times: int
 
 
+class Best(NamedTuple):
+    """The engine that leads, the next one, and how likely it is that the first is better."""
+
+    engine: str
+    other: str
+    better: float
+
+
 class Summary:
     """What each engine has, alone and against each other one."""
 
@@ -224,6 +232,20 @@ class Summary:
         from .standings import Standings  # which isn't needed elsewhere
 
         return Standings(self.counts.pairs, list(self.rows))
+
+    def best(self, standings: Standings) -> Best | None:
+        """Returns who is best, by these standings, or of two engines by their pairs; None where no
+        games say so, or where some engines aren't joined to the others by games."""
+        if len(self.rows) == 2:
+            rows = [row for row in self.pairings.values() if row.pairs.clusters]
+            rows.sort(key=lambda row: -(row.pairs.score() or 0.0))
+            chance = rows[0].pairs.better() if rows else None
+            return None if chance is None else Best(rows[0].first, rows[0].second, chance)
+        groups = standings.groups
+        if len(groups) != 1 or len(groups[0]) < len(self.rows):
+            return None
+        first, second = groups[0][:2]
+        return None if first.better is None else Best(first.engine, second.engine, first.better)
 
     def blames(self) -> Iterator[Blame]:
         """Yields how often each engine was to blame, and restarted."""

@@ -8,7 +8,7 @@ from ...model import SIDES, Side
 from ...stats.breakdown import Part, by_colour
 from ...stats.pairs import Pairing
 from ...stats.summary import PairingRow, Row
-from ..text import line_of_test, percent, points, record, whole
+from ..text import line_of_best, line_of_test, percent, points, record, whole
 from . import charts
 from .courses import Course, course_of
 from .markup import Child, Html, behind, table, tag
@@ -50,9 +50,11 @@ def ranking(view: View) -> list[Child]:
         *("score as Black, %", "as White, %"),
     ]
     numbers = (0, 2, 3, 4, 6, 7, 8, 9, 10, 11, 12, 13)
+    best = tag("p", line_of_best(view.best), class_="best") if view.best else None
     return [
+        best,
         table(heads, rows, "engines, the best one first", "ranking", numbers),
-        tag("p", explained(view), class_="note"),
+        behind("what the numbers mean", tag("p", explained(view), class_="note")),
     ]
 
 
@@ -87,7 +89,7 @@ def explained(view: View) -> str:
         parts.append("Elo is the difference to the other engine, of whole pairs of games.")
     if len(view.standings.groups) > 1:
         parts.append("Engines that no games join are rated apart, one group below the other.")
-    parts.append("The bars are 95 % intervals: what lies within them isn't decided yet.")
+    parts.append("Bars are 95 % intervals of the Elo.")
     black = view.standings.black
     if black:
         interval = to(whole(black.low), whole(black.high))

@@ -49,6 +49,7 @@ class View:
         known = before.gathered if before else None
         self.gathered: Gathered = Gathered(self.counts, asked.rules, known)
         self.is_running = asked.is_played or is_running(self.gathered)
+        self.best = self.summary.best(self.standings)
         self.ranking = self.ranked()
         self.order: Sequence[EngineRow] = [rated.row for rated in self.ranking]
         self.test = self.test_of(asked)
@@ -70,9 +71,12 @@ class View:
             for number, group in enumerate(self.standings.groups)
             for standing in group
         }
-        if not rated and len(self.summary.rows) == 2:
+        if not rated and self.best and len(self.summary.rows) == 2:
+            chances = {self.best.engine: self.best.better}
             rows = self.summary.rows.values()
-            rated = {row.name: Rated(row, row.pairs.estimate(), None, 0) for row in rows}
+            rated = {
+                row.name: Rated(row, row.pairs.estimate(), chances.get(row.name), 0) for row in rows
+            }
         others = [Rated(row, None, None, 0) for row in self.summary.order if row.name not in rated]
         return sorted(rated.values(), key=place_of) + others
 
