@@ -14,7 +14,7 @@ from tests.shared.processes import process_tree
 from .browser import SWITCHES
 
 READS, WRITES = 3, 4  # the descriptors of which Chromium reads and to which it writes
-# a shell gives it these, since it may be started with others alone
+# a shell gives it these: bash, since others know only descriptors of one digit
 STARTED = f'exec "$@" {READS}<&{{0}} {WRITES}>&{{1}}'
 
 
@@ -68,7 +68,7 @@ def chromium(folder: Path, switches: Sequence[str] = ()) -> Iterator[Chromium]:
     words = ["chromium", *SWITCHES, *switches, "--remote-debugging-pipe"]
     words += [f"--user-data-dir={folder / 'chromium'}"]
     (reads, commands), (answers, writes) = os.pipe(), os.pipe()
-    shell = ["sh", "-c", STARTED.format(reads, writes), "sh", *words]
+    shell = ["bash", "-c", STARTED.format(reads, writes), "bash", *words]
     with process_tree(shell, stdout=-3, stderr=-3, pass_fds=[reads, writes]):
         os.close(reads)
         os.close(writes)

@@ -9,7 +9,10 @@ from typing import Any, Callable, Dict, Iterator, List, Tuple
 
 import pytest
 
+from tests.shared.processes import wait_until
+
 from .browser import answer, shown, without_policy
+from .devtools import chromium
 from .firefox import firefox
 from .hostile import RUNS, write_hostile
 from .runner import Runner, engines
@@ -262,6 +265,27 @@ def test_address_of_failures_filters(written: Path) -> None:
     script = 'return byId("found").textContent + byId("list").querySelector("tbody").textContent'
     found = answer(written, script, fragment)
     assert found.startswith("1 of 3 games") and "W+F(illegal move)" in found
+
+
+# ---- phones
+
+NARROW = 390  # pixels, of a phone that is held upright
+# of each text of a picture its height in pixels, and how far the page goes to the right
+TEXTS = """[...document.querySelectorAll("svg text")].map(it =>
+  parseFloat(getComputedStyle(it).fontSize) * it.ownerSVGElement.getScreenCTM().a)"""
+RIGHT = "document.documentElement.scrollWidth"
+
+
+def test_texts_of_charts_can_be_read_on_a_phone(played: Dict[str, Path], tmp_path: Path) -> None:
+    page = played["9x9 with 5 stones"] / "page.html"
+    screen = {"width": NARROW, "height": 844, "deviceScaleFactor": 2, "mobile": True}
+    with chromium(tmp_path) as browser:
+        browser.ask("Emulation.setDeviceMetricsOverride", **screen)
+        browser.open(f"file://{page}")
+        assert wait_until(lambda: bool(browser.value("document.readyState === 'complete'")))
+        heights = browser.value(TEXTS)
+        assert len(heights) > 40 and min(heights) >= 10
+        assert browser.value(RIGHT) == NARROW
 
 
 # ---- what mustn't run

@@ -6,11 +6,12 @@ import http.client
 import json
 import re
 import signal
-from typing import Dict, Iterator, NamedTuple, Optional
+from typing import Any, Dict, Iterator, List, NamedTuple, Optional
 
 import pytest
 
 from .html_page import Page, read
+from .inside import module
 from .runner import TWO, Runner, engines
 from .written import ENDED, WON, write_pairs, write_results
 
@@ -81,6 +82,42 @@ def test_new_results_are_served(client: Client, runner: Runner) -> None:
     assert "games4 of 4" in client.get("/page").page().texts["state"]
 
 
+def test_ranking_is_made_anew_only_for_new_results(
+    runner: Runner, monkeypatch: pytest.MonkeyPatch
+) -> None:
+    folder, server = runner.folder / "all", module("report.page.server")
+    write_pairs(folder, [WON, WON._replace(first=None)])
+    for name in ("notes", "running/2_a_b"):
+        (folder / name).mkdir(parents=True)
+    notes = folder / "notes/2_a_b"
+    notes.write_text("2_a_b on here\n1 black A1 0.1\n")
+    made: List[Any] = []
+    document = server.Document
+
+    def counted(*words: Any) -> Any:
+        made.append(words)
+        return document(*words)
+
+    monkeypatch.setattr(server, "Document", counted)
+    monkeypatch.setattr(server, "FRESH", -1.0)  # seconds
+    asked = module("report.page.view").Asked(str(folder), module("stats.endings").Rules())
+    pages = server.Pages(asked)
+
+    def state() -> str:
+        page, stamp = pages.now()
+        return f"{stamp}, {len(made)}: {Page(gzip.decompress(page).decode()).texts['state']}"
+
+    found = [state(), state()]
+    notes.write_text(f"{notes.read_text()}2 white B1 0.1\n")
+    found += [state(), state()]
+    write_results(folder, {"2_a_b": f"B+R {ENDED}"})
+    found += [state()]
+    heads = [text.partition(": ")[0] for text in found]
+    assert heads == ["1, 1", "1, 1", "2, 1", "2, 1", "3, 2"]
+    assert "2_a_b move 1" in found[1] and "2_a_b move 2" in found[3]
+    assert "games3 of 4" in found[3] and "games4 of 4" in found[4]
+
+
 def test_only_files_of_games_of_the_plan_are_served(client: Client, runner: Runner) -> None:
     got = client.get("/logs/1_a_b")
     assert (got.status, got.body) == (200, b"<b>\n")
@@ -131,6 +168,7 @@ def test_page_is_written_while_games_are_played(runner: Runner) -> None:
     runner.wait_until(place.exists)
     state = read(place).texts["state"]
     assert "games0 of 2" in state and "in play" in state and "not running" not in state
+    runner.wait_for("game 1_one_two")
     process.terminate()
     assert runner.finish(process).status == 143
     assert runner.is_idle()

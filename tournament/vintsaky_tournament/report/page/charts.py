@@ -12,6 +12,7 @@ from ..text import whole
 from .courses import AfterPair, AfterPairs
 from .markup import Html, counted, tag
 from .svg import (
+    WIDE,
     Frame,
     Scale,
     area,
@@ -27,7 +28,6 @@ from .svg import (
     whole_ticks,
 )
 
-WIDE = 1060  # of a chart that takes the whole width
 GREATEST = 1200.0  # Elo to each side, which a bar shows
 MOST_RATIO = 8.0
 BINS = 30

@@ -25,37 +25,62 @@ class Section(NamedTuple):
     content: Child
 
 
-def document(view: View, base: str, is_served: bool = False) -> str:
-    """Returns the page. `base` is the folder as seen from there, for links to logs and notes."""
-    failures = Failures(view.gathered, base)
-    shown = list(sections(view, failures))
-    games = [*view.gathered.ended, *playing_in(view)]
-    style_text, script_text = style(), script(SCRIPTS)
-    title = tag("span", name_of(view))
+class Document:
+    """The page of a view. What follows from results alone is made once. `base` is the folder as
+    seen from there, for links to logs and notes."""
+
+    def __init__(self, view: View, base: str, is_served: bool = False) -> None:
+        self.is_served, self.failures = is_served, Failures(view.gathered, base)
+        self.sections = list(sections(view, self.failures))
+        self.rows = plain_rows(view)
+        ended = view.gathered.ended
+        self.packed = len(ended) // CHUNK * CHUNK  # games, in chunks that have no game in play
+        has_moves, size = view.asked.has_moves, view.gathered.size
+        self.chunks = list(chunks_of(ended[: self.packed], size)) if has_moves else []
+
+    def text(self, view: View) -> str:
+        """Returns the page, with the games in play of a view that has the same results."""
+        shown = [Section("state", "", details.state(view, self.failures)), *self.sections]
+        style_text, script_text = style(), script(SCRIPTS)
+        title = tag("span", name_of(view))
+        links = [(section.id, section.heading) for section in shown if section.heading]
+        parts = {
+            "SERVED": " data-served" if self.is_served else "",
+            "POLICY": policy(style_text, script_text, self.is_served),
+            "TITLE": title[len("<span>") : -len("</span>")],
+            "SUBTITLE": tag("p", subtitle_of(view), class_="what"),
+            "CONTENTS": inner(
+                [tag("a", heading, href=f"#{id_}"), " "]
+                for id_, heading in [*links, ("games", "Games")]
+            ),
+            "SECTIONS": "\n".join(map(of_section, shown)),
+            "ROWS": self.rows,
+            "VIEWER": text_of("viewer.html"),
+            "DATA": "\n".join(self.data(view)),
+            "STYLE": style_text,
+            "SCRIPT": script_text,
+        }
+        return filled("page.html", parts)
+
+    def data(self, view: View) -> Iterator[Html]:
+        """Yields the elements that have what the script needs: columns of numbers, and moves."""
+        games = [*view.gathered.ended, *playing_in(view)]
+        columns = {**columns_of(view, games), **columns_of_failures(games, self.failures)}
+        yield tag("script", as_data(columns), type="application/json", id="data")
+        if view.asked.has_moves:
+            last = chunks_of(games[self.packed :], view.gathered.size)
+            for at, chunk in enumerate([*self.chunks, *last]):
+                yield tag("script", chunk, type="text/plain", id=f"moves{at}")
+
+
+def subtitle_of(view: View) -> str:
+    """Returns what is played in a few words."""
     setup, size = view.gathered.setup, view.gathered.size
     board = f"{size}x{size}, komi {setup.komi}"
     if setup.stones():
         board += f", handicap {setup.stones()}"
     engines = counted(len(view.plan.engines), "engine")
-    subtitle = f"{engines}, {board}, {counted(view.plan.seeds or 0, 'seed')}"
-    links = [(section.id, section.heading) for section in shown if section.heading]
-    parts = {
-        "SERVED": " data-served" if is_served else "",
-        "POLICY": policy(style_text, script_text, is_served),
-        "TITLE": title[len("<span>") : -len("</span>")],
-        "SUBTITLE": tag("p", subtitle, class_="what"),
-        "CONTENTS": inner(
-            [tag("a", heading, href=f"#{id_}"), " "]
-            for id_, heading in [*links, ("games", "Games")]
-        ),
-        "SECTIONS": "\n".join(map(of_section, shown)),
-        "ROWS": plain_rows(view),
-        "VIEWER": text_of("viewer.html"),
-        "DATA": "\n".join(data_of(view, games, failures)),
-        "STYLE": style_text,
-        "SCRIPT": script_text,
-    }
-    return filled("page.html", parts)
+    return f"{engines}, {board}, {counted(view.plan.seeds or 0, 'seed')}"
 
 
 def playing_in(view: View) -> list[Game]:
@@ -76,9 +101,8 @@ def of_section(section: Section) -> Html:
 
 
 def sections(view: View, failures: Failures) -> Iterator[Section]:
-    """Yields the sections that have something to say."""
+    """Yields the sections on results that have something to say."""
     games = view.gathered.ended
-    yield Section("state", "", details.state(view, failures))
     if failures.count:
         yield Section("failures", "Failures", failures.html())
     if games:
@@ -113,15 +137,6 @@ def plain_rows(view: View) -> Html:
 
 
 # ---- the data for the script
-
-
-def data_of(view: View, games: Sequence[Game], failures: Failures) -> Iterator[Html]:
-    """Yields the elements that have what the script needs: columns of numbers, and the moves."""
-    columns = {**columns_of(view, games), **columns_of_failures(games, failures)}
-    yield tag("script", as_data(columns), type="application/json", id="data")
-    if view.asked.has_moves:
-        for at, chunk in enumerate(chunks_of(games, view.gathered.size)):
-            yield tag("script", chunk, type="text/plain", id=f"moves{at}")
 
 
 def columns_of(view: View, games: Sequence[Game]) -> dict[str, object]:

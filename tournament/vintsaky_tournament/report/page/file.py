@@ -5,7 +5,7 @@ import contextlib
 import os
 from urllib.parse import quote
 
-from .document import document
+from .document import Document
 from .view import Asked, View
 
 
@@ -44,5 +44,6 @@ class PageFile:
     def write(self) -> View:
         """Writes the page as it is now, and returns what it shows."""
         self.view = View(self.asked, self.view)
-        write(document(self.view, base_of(self.asked.folder, self.place)), self.place)
+        base = base_of(self.asked.folder, self.place)
+        write(Document(self.view, base).text(self.view), self.place)
         return self.view

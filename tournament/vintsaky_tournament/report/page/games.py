@@ -3,6 +3,7 @@ again only where its file has changed."""
 from __future__ import annotations
 
 import contextlib
+import copy
 import os
 import re
 import time
@@ -237,9 +238,19 @@ class Gathered:
         self.reader = Reader(self.plan, self.folder, rules)
         self.setup, self.size = self.reader.setup, self.reader.size
         known = {game.number: game for game in before.ended} if before else {}
-        self.now = time.time()
         self.ended: list[Game] = list(self.reader.ended(counts, known))
-        self.playing: list[Game] = list(self.reader.in_play(counts))
+        self.look()
+
+    def look(self) -> None:
+        """Looks at the games in play."""
+        self.now = time.time()
+        self.playing: list[Game] = list(self.reader.in_play(self.counts))
+
+    def with_games_in_play(self) -> Gathered:
+        """Returns the same games that have ended, with those in play as they are now."""
+        found = copy.copy(self)
+        found.look()
+        return found
 
     def name(self, game: Game) -> str:
         """Returns the name of a game."""

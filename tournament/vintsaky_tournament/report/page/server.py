@@ -7,12 +7,12 @@ import os
 import re
 import threading
 import time
-from typing import Mapping
+from typing import Mapping, NamedTuple, Sequence
 from urllib.parse import unquote
 
 from ...output import Mistake
 from ...store import results
-from .document import document
+from .document import Document
 from .view import Asked, View
 
 FRESH = 2.0  # seconds for which a page is taken as it is
@@ -37,41 +37,67 @@ class Answer:
         self.status, self.body, self.kind, self.is_packed = status, body, kind, is_packed
 
 
+class Seen(NamedTuple):
+    """When a file was changed, in nanoseconds, and its bytes; 0 where there is none."""
+
+    changed: int = 0
+    size: int = 0
+
+
+def seen_of(place: str) -> Seen:
+    """Returns what is seen of a file."""
+    try:
+        found = os.stat(place)
+    except OSError:
+        return Seen()
+    return Seen(found.st_mtime_ns, found.st_size)
+
+
 class Pages:
     """The page of a folder, which is made where it is asked for and something has changed."""
 
     def __init__(self, asked: Asked) -> None:
         self.asked, self.lock = asked, threading.Lock()
         self.view = View(asked)
+        self.document: Document | None = None
         self.looked = 0.0  # when the folder was looked at
-        self.state: object = None  # what was seen there
+        self.results: Sequence[int] = ()  # what was seen there
+        self.playing: Sequence[int] = ()
         self.stamp = 0  # how many pages were made
         self.page = b""
 
-    def seen(self) -> object:
-        """Returns something that changes where the folder does, by its files' times alone."""
-        folder, found = self.asked.folder, []
-        for name in ("plan", "games", "logs", "running", "scores"):
-            try:
-                found.append(os.stat(f"{folder}/{name}").st_mtime_ns)
-            except OSError:
-                found.append(0)
-        for game in self.view.gathered.playing:
-            try:
-                name = self.view.gathered.name(game)
-                found.append(os.stat(f"{folder}/notes/{name}").st_size)
-            except OSError:
-                found.append(0)
-        return found
+    def seen_results(self) -> list[int]:
+        """Returns numbers that change where results do, or games begin or end, by the times of
+        files alone."""
+        names = ("plan", "games", "logs", "running", "scores")
+        return [seen_of(f"{self.asked.folder}/{name}").changed for name in names]
+
+    def seen_playing(self) -> list[int]:
+        """Returns numbers that change with the games in play."""
+        gathered = self.view.gathered
+        names = [gathered.name(game) for game in gathered.playing]
+        return [seen_of(f"{self.asked.folder}/notes/{name}").size for name in names]
+
+    def update(self) -> bool:
+        """Takes what has changed, and returns whether something has. Only results change what is
+        made of them."""
+        results, playing = self.seen_results(), self.seen_playing()
+        if self.document and (results, playing) == (self.results, self.playing):
+            return False
+        if self.document and results == self.results:
+            self.view = self.view.with_games_in_play()
+        else:
+            self.view = View(self.asked, self.view)
+            self.document = Document(self.view, "", True)
+        self.results, self.playing = results, self.seen_playing()
+        return True
 
     def now(self) -> tuple[bytes, int]:
         """Returns the page as it is now, packed, and its number. One is made at a time."""
         with self.lock:
             if not self.page or time.monotonic() - self.looked > FRESH:
-                if not self.page or self.seen() != self.state:
-                    self.view = View(self.asked, self.view)
-                    self.state = self.seen()
-                    self.page = gzip.compress(document(self.view, "", True).encode(), 4)
+                if self.update() and self.document:
+                    self.page = gzip.compress(self.document.text(self.view).encode(), 4)
                     self.stamp += 1
                 self.looked = time.monotonic()
             return self.page, self.stamp

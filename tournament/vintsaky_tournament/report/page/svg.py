@@ -7,6 +7,7 @@ from typing import Iterable, Sequence
 
 from .markup import Child, Html, tag
 
+WIDE = 1060  # of a chart that takes the whole width
 Point = Sequence[float]
 
 
@@ -133,8 +134,13 @@ class Frame:
         return [label(self.across(value), y, f"{value:g}", "middle") for value in values]
 
     def picture(self, title: str, *parts: Child) -> Html:
-        """Returns the chart."""
-        return picture(self.width, self.height, title, *parts)
+        """Returns the chart. A wide one is moved on a narrow screen, and not made smaller, so that
+        its texts can be read."""
+        chart = picture(self.width, self.height, title, *parts)
+        if self.width < WIDE:
+            return chart
+        region = {"tabindex": "0", "role": "region", "aria_label": title}
+        return tag("div", chart, class_="wide", **region)
 
 
 def whole_ticks(low: float, high: float, most: int = 6) -> list[float]:

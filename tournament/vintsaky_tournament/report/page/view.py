@@ -1,6 +1,7 @@
 """What the sections of a page are made of: the tally, the games, and a sequential test."""
 from __future__ import annotations
 
+import copy
 import math
 from typing import NamedTuple, Sequence
 
@@ -53,6 +54,13 @@ class View:
         self.ranking = self.ranked()
         self.order: Sequence[EngineRow] = [rated.row for rated in self.ranking]
         self.test = self.test_of(asked)
+
+    def with_games_in_play(self) -> View:
+        """Returns the same results, with the games in play as they are now."""
+        found = copy.copy(self)
+        found.gathered = self.gathered.with_games_in_play()
+        found.is_running = self.asked.is_played or is_running(found.gathered)
+        return found
 
     def test_of(self, asked: Asked) -> Course | None:
         """Returns the sequential test that is asked for, if one is."""
