@@ -140,15 +140,23 @@ def test_who_is_best_and_how_sure_that_is(runner: Runner) -> None:
     # normal distribution has above it in 98.97 % of cases
     write_pairs(runner.folder / "all", pairs_of((10, 20, 40, 30, 20)))
     page = page_of(runner)
-    assert "a is best: 99.0 % sure that it is stronger than b, the next" in page.texts["ranking"]
+    assert (
+        "a is best: it is 99.0 % sure that it is stronger than the next, b" in page.texts["ranking"]
+    )
     assert [row[4] for row in page.rows["ranking"][1:]] == ["99.0 %", ""]
 
 
 @pytest.mark.parametrize(
     "write, said",
     [
-        (lambda folder: write_pairs(folder, [EVEN] * 3), "a leads, but only 50.0 % sure that it"),
-        (lambda folder: write_pairs(folder, [LOST] * 60), "b is best: more than 99.9 % sure that"),
+        (
+            lambda folder: write_pairs(folder, [EVEN] * 3),
+            "a leads, but it is only 50.0 % sure that it",
+        ),
+        (
+            lambda folder: write_pairs(folder, [LOST] * 60),
+            "b is best: it is more than 99.9 % sure that",
+        ),
         (three, None),
         (apart, ""),
         (lambda folder: write_pairs(folder, [NONE]), ""),
@@ -162,7 +170,8 @@ def test_sentence_on_the_best(write: Write, said: Optional[str], runner: Runner)
     if said is None:  # the tally's number
         first, second = json.loads(runner.tally("all", "--json").output)["ratings"][:2]
         chance, other = f"{100 * first['better_than_next']:.1f} %", second["engine"]
-        said = f"{first['engine']} leads, but only {chance} sure that it is stronger than {other}"
+        said = f"{first['engine']} leads, but it is only {chance} sure"
+        said = f"{said} that it is stronger than the next, {other}"
     assert len(found) == bool(said) and "".join(found).startswith(said)
 
 

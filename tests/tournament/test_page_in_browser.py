@@ -215,8 +215,8 @@ USES: Dict[str, Tuple[str, Any]] = {
     ),
     "SGF": (
         'return sgfOf(await recordOf(byName.get("2_a_b"))).replace("\\n", "")',
-        "(;FF[4]GM[1]CA[UTF-8]AP[Vintsaky]SZ[3]KM[5]PB[a]PW[b]RE[Void]GN[2_a_b]C[limit, 4 moves]"
-        ";B[ac];W[ab];B[aa];W[bc])\n",
+        "(;FF[4]GM[1]CA[UTF-8]AP[Vintsaky]SZ[3]KM[5]PB[a]PW[b]RE[Void]GN[2_a_b]"
+        "C[limit, 4 moves, restarts 1 / 0];B[ac];W[ab];B[aa];W[bc])\n",
     ),
 }
 ALL = """

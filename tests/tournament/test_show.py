@@ -48,6 +48,13 @@ def test_record_has_no_size_and_no_komi(runner: Runner) -> None:
     assert moves_of(game) == [[2, 0], [1, 1]]
 
 
+def test_links_to_games_are_none_without_the_script(runner: Runner) -> None:
+    games_of(runner, "game 1: B+R moves 0 restarts 0 0\n\ngame 2: W+R moves 0 restarts 0 0\n\n")
+    page = read(runner.folder / "file.html")
+    links = [element.attributes for element in page.elements if element.name == "a"]
+    assert links == [{"data-to": f"#game=game-{number}"} for number in (1, 2)]
+
+
 MISTAKES: Dict[str, Tuple[str, List[str], str]] = {
     "off the board": (
         "game 1: B+R moves 2 restarts 0 0\nA1 D4\n",

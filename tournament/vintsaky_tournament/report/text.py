@@ -206,8 +206,8 @@ def line_of_best(best: Best) -> str:
     engine, other, better = best
     sure = f"{100 * better:.1f} %" if better < MOST_SURE else f"more than {100 * MOST_SURE:.1f} %"
     if better >= SURE:
-        return f"{engine} is best: {sure} sure that it is stronger than {other}, the next"
-    return f"{engine} leads, but only {sure} sure that it is stronger than {other}, the next"
+        return f"{engine} is best: it is {sure} sure that it is stronger than the next, {other}"
+    return f"{engine} leads, but it is only {sure} sure that it is stronger than the next, {other}"
 
 
 def line_of_leader(first: Leader) -> str:

@@ -22,6 +22,11 @@ function filled(element, attributes, children) {
   return element;
 }
 
+// Makes links of what only the script can show.
+function showLinks() {
+  for (const link of document.querySelectorAll("a[data-to]")) link.href = link.dataset.to;
+}
+
 // Returns seconds with two digits.
 function inSeconds(seconds) {
   return seconds.toFixed(seconds >= 10 ? 0 : seconds >= 1 ? 1 : seconds >= 0.095 ? 2 : 3);

@@ -60,7 +60,8 @@ async function recordOf(game) {
   const engines = [data.engines[game.black], data.engines[game.white]];
   const blamed = game.blamed === null ? null : `${engines[game.blamed]}: ${causeOf(game)}`;
   const other = game.other ? ` (by twogtp ${game.other})` : "";
-  const ended = `${game.verdict}${other}, ${game.count} moves`;
+  const again = restartsOf(game) ? `, restarts ${game.restarts.join(" / ")}` : "";
+  const ended = `${game.verdict}${other}, ${game.count} moves${again}`;
   return {
     name: game.name, title: `${engines.join(" - ")}, seed ${game.seed}`, engines, size, steps,
     komi: data.komi, handicap: data.handicap, black: handicapPoints(size, data.handicap), white: [],

@@ -17,7 +17,7 @@ def show(games: Sequence[Shown], place: str) -> str:
     """Returns the page of games, which are of the file in this place."""
     style_text, script_text = style(), script(SCRIPTS)
     title = tag("span", os.path.basename(place))
-    links = [tag("a", game.title, href=f"#game={game.name}") for game in games[:MOST_LINKS]]
+    links = [tag("a", game.title, data_to=f"#game={game.name}") for game in games[:MOST_LINKS]]
     data = {"games": [game._asdict() for game in games]}
     parts = {
         "POLICY": policy(style_text, script_text),

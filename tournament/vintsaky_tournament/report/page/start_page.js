@@ -59,11 +59,6 @@ async function showPlaying() {
   }
 }
 
-// Makes links of what only this script can show.
-function showLinks() {
-  for (const link of document.querySelectorAll("a[data-to]")) link.href = link.dataset.to;
-}
-
 function showData() {
   showLinks();
   takeData(byId("data").textContent);

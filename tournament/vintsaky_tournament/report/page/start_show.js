@@ -17,6 +17,7 @@ function heedAddress() {
 }
 
 startShade();
+showLinks();
 byId("viewer").hidden = false;
 byId("close").hidden = true;
 for (const id of ["before", "after"]) byId(id).hidden = games.length < 2;
