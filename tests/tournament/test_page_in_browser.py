@@ -123,14 +123,22 @@ def written(shared_runner: Runner) -> Path:
 
 
 # what is done, and what is then returned; and what that is, by hand
+EVERY = ["B+R", "W+F(illegal move)", "limit"]
 USES: Dict[str, Tuple[str, Any]] = {
-    "all games": ("return verdicts()", ["B+R", "W+F(illegal move)", "limit"]),
+    "all games": ("return verdicts()", EVERY),
     "a verdict": ('set("by-text", "f("); return verdicts()', ["W+F(illegal move)"]),
     "moves": ('set("by-least", "3"); return verdicts()', ["B+R", "limit"]),
     "an end": ('set("by-kind", "failed"); return verdicts()', ["W+F(illegal move)"]),
     "a colour": (
         'set("by-engine", "1"); set("by-colour", "0"); return verdicts()',
         ["W+F(illegal move)"],
+    ),
+    # a has Black in the first and the third game, and wins the first two
+    "a result": (
+        'set("by-engine", "0"); set("by-result", "won"); const won = verdicts();'
+        ' set("by-result", "lost"); set("by-engine", "1"); const lost = verdicts();'
+        ' set("by-engine", ""); return [won, lost, verdicts(), byId("by-result").disabled]',
+        [["B+R", "W+F(illegal move)"], ["B+R", "W+F(illegal move)"], EVERY, True],
     ),
     "sorted": ("sort(); return verdicts()", ["W+F(illegal move)", "limit", "B+R"]),
     "sorted the other way": (

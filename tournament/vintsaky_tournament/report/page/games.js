@@ -130,10 +130,11 @@ function filterOf() {
   const value = id => byId(id).value, place = id => value(id) === "" ? null : Number(value(id));
   const text = value("by-text").trim().toLowerCase(), kind = value("by-kind");
   const one = place("by-engine"), other = place("by-other"), colour = place("by-colour");
-  const least = place("by-least") ?? 0, most = place("by-most") ?? Infinity;
+  const result = value("by-result"), least = place("by-least") ?? 0, most = place("by-most") ?? Infinity;
   return game => {
     const sides = [game.black, game.white], side = one === null ? -1 : sides.indexOf(one);
     if (one !== null && (side < 0 || colour !== null && side !== colour)) return false;
+    if (one !== null && result && game.winner !== (result === "won" ? side : 1 - side)) return false;
     if (table.isBlamed && game.blamed !== side) return false;
     if (other !== null && (one === null ? !sides.includes(other) : sides[1 - side] !== other)) {
       return false;
@@ -146,6 +147,7 @@ function filterOf() {
 
 // Shows the games that the filter asks for.
 function showGames() {
+  for (const id of ["by-colour", "by-result"]) byId(id).disabled = byId("by-engine").value === "";
   const {value} = COLUMNS.find(column => column.key === table.key), sign = table.isDown ? -1 : 1;
   const found = games.filter(filterOf()).map(game => [value(game), game]);
   found.sort(([x, one], [y, other]) =>

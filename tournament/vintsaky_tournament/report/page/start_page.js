@@ -33,7 +33,7 @@ function heedAddress() {
   byId("viewer").close();  // of a game that the address before has named
   if (asked.has("engine")) {
     const place = name => data.engines.includes(name) ? data.engines.indexOf(name) : "";
-    for (const id of ["by-colour", "by-text", "by-least", "by-most"]) byId(id).value = "";
+    for (const id of ["by-colour", "by-result", "by-text", "by-least", "by-most"]) byId(id).value = "";
     byId("by-engine").value = place(asked.get("engine"));
     byId("by-other").value = place(asked.get("other"));
     byId("by-kind").value = asked.get("kind") || "";
