@@ -296,6 +296,13 @@ def test_texts_of_charts_can_be_read_on_a_phone(played: Dict[str, Path], tmp_pat
         assert browser.value(RIGHT) == NARROW
 
 
+def test_page_without_moves_has_no_links_to_boards(written: Path) -> None:
+    text = written.read_text().replace('"moves":true', '"moves":false')
+    script = 'return [...document.querySelectorAll("#failures a[href]")].map(it => it.textContent)'
+    assert answer(written, script, text=text) == ["1 game", "log", "notes"]
+    assert "1_b_a" in answer(written, script)
+
+
 # ---- what mustn't run
 
 PLANTED = f"<main><img src=x onerror={RUNS}><script>{RUNS}</script>"

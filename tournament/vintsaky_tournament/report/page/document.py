@@ -133,7 +133,9 @@ def plain_rows(view: View) -> Html:
         cells += [f"{seconds:.1f}" for seconds in game.noted.seconds or ()]
         rows.append("<tr>" + "".join(f"<td>{inner([cell])}" for cell in cells) + "\n")
     head = "<tr><th>seed<th>Black<th>White<th>verdict<th>moves<th>s Black<th>s White\n"
-    return Html(f"<table class=plain>{head}{''.join(rows)}</table>")
+    count = len(view.gathered.ended)
+    which = f"<p>The first {len(rows)} of {count} games:\n" if count > len(rows) else ""
+    return Html(f"{which}<table class=plain>{head}{''.join(rows)}</table>")
 
 
 # ---- the data for the script

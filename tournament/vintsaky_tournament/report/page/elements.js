@@ -22,9 +22,11 @@ function filled(element, attributes, children) {
   return element;
 }
 
-// Makes links of what only the script can show.
-function showLinks() {
-  for (const link of document.querySelectorAll("a[data-to]")) link.href = link.dataset.to;
+// Makes links of what only the script can show: games, if there are boards, and filtered ones.
+function showLinks(hasBoards = true) {
+  for (const link of document.querySelectorAll("a[data-to]")) {
+    if (hasBoards || !link.dataset.to.startsWith("#game=")) link.href = link.dataset.to;
+  }
 }
 
 // Returns seconds with two digits.

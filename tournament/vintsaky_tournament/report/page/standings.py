@@ -89,7 +89,11 @@ def explained(view: View) -> str:
         parts.append("Elo is the difference to the other engine, of whole pairs of games.")
     if len(view.standings.groups) > 1:
         parts.append("Engines that no games join are rated apart, one group below the other.")
-    parts.append("Bars are 95 % intervals of the Elo.")
+    parts.append("Bars are its 95 % intervals.")
+    parts.append("Better than the next: how likely an engine is stronger than the one below it.")
+    parts.append("Pairs, below, are the same question about two engines, by their own games alone.")
+    if view.test:
+        parts.append("The sequential test says only whether its games may end.")
     black = view.standings.black
     if black:
         interval = to(whole(black.low), whole(black.high))

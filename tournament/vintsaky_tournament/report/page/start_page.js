@@ -60,8 +60,8 @@ async function showPlaying() {
 }
 
 function showData() {
-  showLinks();
   takeData(byId("data").textContent);
+  showLinks(data.moves);
   fillFilter();
   showGames();
   showPlaying().catch(() => null);
