@@ -42,7 +42,7 @@ def test_failures_by_cause(runner: Runner) -> None:
     text = page.texts["failures"]
     # both forfeits have one cause, whose numbers differ
     assert text.count("it lied: 2 games") == 1
-    assert "a F(illegal move): 2 games" in text
+    assert "a forfeit (illegal move): 2 games" in text
     assert "b late: 1 game" in text and "no answer to genmove within the limit: 1 game" in text
     assert text.count("it ended at genmove: exit status 4: 2 games") == 1
     assert "nobody came: 1 game4_a_b (log)" in text
@@ -101,7 +101,7 @@ def test_many_failures_are_a_small_page(runner: Runner) -> None:
         line = f"twogtp: game 1: black: {'x' * 300} at {seed}\n"
         (folder / "logs" / f"{seed}_a_b").write_text(line)
     page = page_of(runner)
-    assert "a F(no move): 2000 games" in page.texts["failures"]
+    assert "a forfeit (no move): 2000 games" in page.texts["failures"]
     assert f"{'x' * 300} at 2000: 500 games" in page.texts["failures"]
     # of 500 there is a text of 300 characters, and of each a few characters
     assert len(json.dumps(page.data)) < 500 * 320 + 100 * count

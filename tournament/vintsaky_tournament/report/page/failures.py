@@ -60,7 +60,7 @@ class Failures:
             if game.has_failed and game.blamed is not None:
                 name = self.gathered.name(game)
                 self.sides[name] = game.blamed
-                way = game.verdict[2:] if game.kind == "forfeit" else game.kind
+                way = f"forfeit ({game.verdict[4:-1]})" if game.kind == "forfeit" else game.kind
                 engine = self.gathered.engines(game)[game.blamed]
                 groups.setdefault((engine, game.kind, way), []).append(name)
         if self.reasons:
