@@ -13,7 +13,7 @@ import pytest
 from .html_page import Page, read
 from .inside import module
 from .runner import TWO, Runner, engines
-from .written import ENDED, WON, write_pairs, write_results
+from .written import ENDED, WON, write_pairs, write_result, write_results
 
 
 class Got(NamedTuple):
@@ -174,6 +174,21 @@ def test_page_is_written_while_games_are_played(runner: Runner) -> None:
     assert runner.is_idle()
     assert [each.name for each in runner.folder.glob("page.html*")] == ["page.html"]
     assert json.dumps(read(place).data["number"]) == "[]"
+
+
+def test_page_of_a_run_that_was_stopped_says_so(runner: Runner) -> None:
+    runner.script("waits", "until [ -e go ]; do sleep 0.1; done; exec gtp_engine")
+    runner.tournament("plan", "all", *engines(one="./waits", two="gtp_engine"), "--seeds", "1")
+    runner.pass_trials("all")
+    (runner.folder / "all/games").mkdir(exist_ok=True)
+    write_result(runner.folder / "all", "1_two_one", "B+R moves 1 restarts 0 0", "D4")
+    process = runner.start("tournament", "play", "all", "--page", "page.html")
+    runner.wait_for("game 1_one_two")
+    process.terminate()
+    assert runner.finish(process).status == 143
+    state = read(runner.folder / "page.html").texts["state"]
+    # though there was a result a moment ago
+    assert "games1 of 2" in state and "not running" in state
 
 
 @pytest.mark.parametrize(

@@ -55,6 +55,7 @@ class PageWriter:
         os.read(self.ended, 1)  # nothing, once it has ended
         with contextlib.suppress(OSError):
             os.unlink(new_place(self.page.place, self.process))
+        self.page.asked = self.page.asked._replace(is_played=False)
         try:
             self.page.write()
         except OSError as error:

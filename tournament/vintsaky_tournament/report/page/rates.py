@@ -42,8 +42,8 @@ def has_begun(gathered: Gathered) -> bool:
 
 
 def rate_of(gathered: Gathered, ends: Sequence[float]) -> Rate | None:
-    """Returns how fast it is; None where nothing is going on."""
-    if not ends or not is_running(gathered):
+    """Returns how fast a run is that goes on; None where it has no results lately."""
+    if not ends:
         return None
     began, longest = ends[0], max(GAP, gathered.plan.limit or 0)
     for before, after in zip(ends, ends[1:]):

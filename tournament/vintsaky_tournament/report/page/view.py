@@ -14,19 +14,19 @@ from ...stats.summary import Counts, EngineRow, Summary
 from ...store.left_out import Decided
 from .courses import Course
 from .games import Gathered
-from .rates import is_running
+from .rates import has_begun, is_running
 
 
 class Asked(NamedTuple):
     """What is asked for: a folder, how its games count, and a test. Pages may leave out moves, and
-    that of a run that goes on knows so."""
+    that of a run knows whether the run goes on."""
 
     folder: str
     rules: Rules
     leave_out_undecided: bool = False
     test: TestRequest | None = None
     has_moves: bool = True
-    is_played: bool = False
+    is_played: bool | None = None
 
 
 class Rated(NamedTuple):
@@ -49,7 +49,7 @@ class View:
         self.standings = self.summary.standings()
         known = before.gathered if before else None
         self.gathered: Gathered = Gathered(self.counts, asked.rules, known)
-        self.is_running = asked.is_played or is_running(self.gathered)
+        self.is_running = self.goes_on()
         self.best = self.summary.best(self.standings)
         self.ranking = self.ranked()
         self.order: Sequence[EngineRow] = [rated.row for rated in self.ranking]
@@ -59,8 +59,14 @@ class View:
         """Returns the same results, with the games in play as they are now."""
         found = copy.copy(self)
         found.gathered = self.gathered.with_games_in_play()
-        found.is_running = self.asked.is_played or is_running(found.gathered)
+        found.is_running = found.goes_on()
         return found
+
+    def goes_on(self) -> bool:
+        """Returns whether games are being played. Where a run has ended, another one may play."""
+        if self.asked.is_played is None:
+            return is_running(self.gathered)
+        return self.asked.is_played or has_begun(self.gathered)
 
     def test_of(self, asked: Asked) -> Course | None:
         """Returns the sequential test that is asked for, if one is."""
