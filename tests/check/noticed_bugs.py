@@ -42,6 +42,10 @@ OTHERS: Dict[Lessons, Tuple[str, ...]] = {
         "old_ko_stays old_moves_are_undone game_is_resumed_at_its_first_move",
     ),
     ("start", "sizes"): ("old_colour_stays book_has_no_sizes",),
+    ("placed",): (
+        # the stone of a move that was chosen is surrounded, and is captured or isn't
+        "stone_by_turn no_colour_is_read first_stone_is_blacks",
+    ),
     ("sizes",): (
         # ids of three digits: so many commands has one engine in this lesson
         "ids_are_bytes",
@@ -127,8 +131,6 @@ OTHERS: Dict[Lessons, Tuple[str, ...]] = {
 }
 # bugs that are noticed by chance, as checks have shown
 CHANCE: Dict[Lessons, Tuple[str, ...]] = {
-    # a random play meets a stone of the wrong colour
-    ("games", "genmoves"): ("no_colour_is_read",),
     # the engine captures in a ko, and is asked to undo
     ("genmoves", "sizes"): ("ko_after_a_genmove",),
     # A chain is captured that has two stones at the play, and later the engine chooses one of its

@@ -187,9 +187,9 @@ def test_engine_that_refuses_everything(checker: Checker, tmp_path: Path) -> Non
     # commands are five of each start, one for each part of a lesson, and in those that look for the
     # size of scenes 21 more.
     parts = {
-        **{"start": 4, "sizes": 25, "ko": 6 * 16, "captures": 8 * 16, "suicide": 5 * 16},
-        **{"joining": 4 * 16, "handicaps": 25 * 12, "komi": 16, "drawn": 11, "record": 3},
-        **{"genmoves": 9, "games": 5, "restarts": 5},
+        **{"start": 4, "placed": 1, "sizes": 25, "ko": 6 * 16, "captures": 8 * 16},
+        **{"suicide": 5 * 16, "joining": 4 * 16, "handicaps": 25 * 12, "komi": 16},
+        **{"drawn": 11, "record": 3, "genmoves": 9, "games": 5, "restarts": 5},
     }
     one_size = ("sizes", "handicaps")
     commands = 3 * 5 + sum(
@@ -232,8 +232,8 @@ check: an engine without a name, version unknown, seed 1, simple ko
 # it wrote: ""
 # right: an engine answers each command, and reads on until quit
 
-check: not asked, as the options say: start sizes ko captures suicide joining handicaps drawn \
-record genmoves games restarts
+check: not asked, as the options say: start placed sizes ko captures suicide joining handicaps \
+drawn record genmoves games restarts
 check: the engine was not started: no such file: "{str(once)[:80]}"
 check: not asked, or not to their end, for that: komi
 check: 1 command, 1 start, 1 complaint

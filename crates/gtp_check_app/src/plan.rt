@@ -86,12 +86,13 @@ fn is_chosen(options: &Options<'_>, lesson: Lesson) -> bool
         && (!options.quick || is_quick(lesson))
 }
 
-/// Whether `--quick` keeps a lesson: one of the first six.
+/// Whether `--quick` keeps a lesson: one of the first seven.
 fn is_quick(lesson: Lesson) -> bool
     ensures { result ≡ is_quick lesson }
 {
     match lesson {
         Lesson::Start
+        | Lesson::Placed
         | Lesson::Sizes
         | Lesson::Ko
         | Lesson::Captures

@@ -2,14 +2,14 @@
 -- in chunks. How a user names them.
 use Rattle.std.specs.Prelude.{ℕ, ◌==◌, Bool, false, if◌then◌else◌, List, [], map, slice_get, unwrap_or}
 use Rattle.gtp_check_course.specs.declared.lessons.Lesson.{Lesson}
-use Rattle.gtp_check_course.specs.declared.lessons.Lesson.TheVariants.{Start, Sizes, Ko, Captures, Suicide, Joining}
+use Rattle.gtp_check_course.specs.declared.lessons.Lesson.TheVariants.{Start, Placed, Sizes, Ko, Captures, Suicide, Joining}
 use Rattle.gtp_check_course.specs.declared.lessons.Lesson.TheVariants.{Handicaps, Komi, Drawn, Record, Genmoves}
 use Rattle.gtp_check_course.specs.declared.lessons.Lesson.TheVariants.{Games, Restarts}
 use Rattle.gtp_check_course.specs.declared.stretches.Stretch.{Stretch}
 use Rattle.gtp_check_course.specs.declared.games.TheConstants.{RECORD, GENMOVES, GAMES, RESTARTS}
 use Rattle.gtp_check_course.specs.declared.lessons.TheConstants.{LESSON_NAMES, LESSONS}
 use Rattle.gtp_check_course.specs.declared.tables.TheConstants.{SCENE, KO, REFUSED, START, PIECES, IN_FULL, LIST, SIZES}
-use Rattle.gtp_check_course.specs.declared.tables.TheConstants.{HANDICAPS, KOMI, DRAWN}
+use Rattle.gtp_check_course.specs.declared.tables.TheConstants.{PLACED, HANDICAPS, KOMI, DRAWN}
 
 -- all lessons, in the order of a course
 abbrev pub all_lessons : List Lesson
@@ -18,27 +18,29 @@ all_lessons = LESSONS
 -- its number among all lessons, counted from 0
 abbrev pub number_of : Lesson → ℕ
 number_of Start = 0
-number_of Sizes = 1
-number_of Ko = 2
-number_of Captures = 3
-number_of Suicide = 4
-number_of Joining = 5
-number_of Handicaps = 6
-number_of Komi = 7
-number_of Drawn = 8
-number_of Record = 9
-number_of Genmoves = 10
-number_of Games = 11
-number_of Restarts = 12
+number_of Placed = 1
+number_of Sizes = 2
+number_of Ko = 3
+number_of Captures = 4
+number_of Suicide = 5
+number_of Joining = 6
+number_of Handicaps = 7
+number_of Komi = 8
+number_of Drawn = 9
+number_of Record = 10
+number_of Genmoves = 11
+number_of Games = 12
+number_of Restarts = 13
 
 -- the name of a lesson
 abbrev pub name_of : Lesson → List ℕ
 name_of lesson = unwrap_or (slice_get (map (λ name. name.now) LESSON_NAMES) (number_of lesson)) []
 
--- the parts: four of the start, the second in chunks; each size; each scene in its sixteen ways; each size with each
+-- the parts: four of the start, the second in chunks; one; each size; each scene in its sixteen ways; each size with each
 -- number of handicap stones up to 11; and so on
 abbrev pub parts_of : Lesson → ℕ
 parts_of Start = 4
+parts_of Placed = 1
 parts_of Sizes = 25
 parts_of Ko = 96
 parts_of Captures = 128
@@ -63,6 +65,7 @@ start_parts part =
 -- the stretches of a part, one after the other
 abbrev pub stretches_of : Lesson → ℕ → List Stretch
 stretches_of Start part = start_parts part
+stretches_of Placed part = PLACED
 stretches_of Sizes part = SIZES
 stretches_of Ko part = KO
 stretches_of Captures part = SCENE

@@ -8,6 +8,7 @@ use Rattle.go_base.specs.Point.{IsOn, column_of, row_of}
 use Rattle.go_base.specs.Size.{most_size}
 use Rattle.go_base.specs.declared.colours.Colour.{Colour}
 use Rattle.go_base.specs.declared.colours.Colour.TheVariants.{Black, White}
+use Rattle.go_base.specs.declared.moves.Move.{Move}
 use Rattle.go_base.specs.declared.vertices.Vertex.{Vertex}
 use Rattle.go_base.specs.declared.vertices.Vertex.TheVariants.{Pass, At}
 use Rattle.go_board.specs.Game.{GameRecord, IsLegal}
@@ -127,6 +128,27 @@ next_to step p =
 abbrev pub surround_asked : ℕ → Option ℕ → Question
 surround_asked step None = Nothing
 surround_asked step (Some p) = plays White (next_to step p)
+
+-- ---- a move that was made
+
+-- a play on a point; nothing where there is no point
+abbrev pub plays_on : Colour → Vertex → Question
+plays_on colour Pass = Nothing
+plays_on colour (At p) = plays colour (At p)
+
+-- a play on the point of a move, first in one colour and then in the other
+abbrev pub on_move_asked : ℕ → Option Move → Question
+on_move_asked step None = Nothing
+on_move_asked step (Some move) = plays_on (colour_of step) move.vertex
+
+-- a play of the other colour next to the point of a move: on its left, on its right, below it and above it
+abbrev pub around_point_asked : ℕ → Colour → Vertex → Question
+around_point_asked step colour Pass = Nothing
+around_point_asked step colour (At p) = plays_on colour (next_to step p)
+
+abbrev pub around_asked : ℕ → Option Move → Question
+around_asked step None = Nothing
+around_asked step (Some move) = around_point_asked step (other move.colour) move.vertex
 
 -- ---- each point, long waits, and empty boards
 
@@ -360,6 +382,10 @@ IsQuestion stretch.Filled step board game question = question ≡ act_asked boar
 IsQuestion stretch.Gaps step board game question = question ≡ act_asked board (Some (gap_act step.number board.size))
 IsQuestion stretch.Swept step board game question = question ≡ act_asked board (Some (swept_act step.number board.size))
 IsQuestion (stretch.Chosen colour) step board game question = question ≡ choice_asked board colour
+IsQuestion (stretch.OnMove number) step board game question =
+    question ≡ on_move_asked step.number (slice_get game.moves number)
+IsQuestion (stretch.AroundMove number) step board game question =
+    question ≡ around_asked step.number (slice_get game.moves number)
 IsQuestion (stretch.ChosenInFull colour) step board game question = question ≡ choice_in_full board colour
 IsQuestion stretch.List step board game question = question ≡ Ask ListCommands
 IsQuestion stretch.Restart step board game question = question ≡ Restart

@@ -11,7 +11,7 @@ use crate::{games, tables};
 use arrayvec::ArrayVec;
 
 /// How many lessons there are.
-const ALL: usize = 13;
+const ALL: usize = 14;
 
 /// The lessons of a course, in their order.
 pub type Lessons = ArrayVec<Lesson, ALL>;
@@ -23,6 +23,9 @@ pub enum Lesson {
     /// Then a few commands whose lines come in two chunks each, some moves whose colours are written in full, and
     /// `list_commands`.
     Start,
+    /// The stones of the engine's own moves: whether each is on its point, and whose it is. For that the other colour
+    /// surrounds it, which captures it if it has the colour that was asked for.
+    Placed,
     /// Each size from 1 to 25: whether the engine accepts it, each of its points, and two points that it doesn't have.
     /// Then the capture of all stones of a full board, which is undone with the moves before it, on some sizes with all
     /// of them.
@@ -67,6 +70,7 @@ impl Default for Lesson {
 /// All lessons, in the order of a course.
 pub const LESSONS: [Lesson; ALL] = [
     Lesson::Start,
+    Lesson::Placed,
     Lesson::Sizes,
     Lesson::Ko,
     Lesson::Captures,
@@ -84,6 +88,7 @@ pub const LESSONS: [Lesson; ALL] = [
 /// Their names, as a user writes them.
 pub const LESSON_NAMES: [&str; ALL] = [
     "start",
+    "placed",
     "sizes",
     "ko",
     "captures",
@@ -109,7 +114,7 @@ impl Lesson {
     /// Returns its number among all lessons, counted from 0.
     pub fn number(self) -> usize
         ensures number { result ≡ number_of self }
-        ensures few { result ≤ 12 }
+        ensures few { result ≤ 13 }
     {
         self as usize
     }
@@ -121,6 +126,7 @@ impl Lesson {
     {
         match self {
             Lesson::Start => 4,
+            Lesson::Placed => 1,
             Lesson::Sizes => 25,
             Lesson::Ko => 6 * WAYS,
             Lesson::Captures => 8 * WAYS,
@@ -153,6 +159,7 @@ impl Lesson {
     {
         match self {
             Lesson::Start => start_parts(part),
+            Lesson::Placed => &tables::PLACED,
             Lesson::Sizes => &tables::SIZES,
             Lesson::Ko => &tables::KO,
             Lesson::Captures | Lesson::Joining => &tables::SCENE,

@@ -6,6 +6,7 @@
 #![tactic(auto)]
 
 pub mod actions;
+mod beside;
 pub mod boards;
 mod course;
 pub mod draws;

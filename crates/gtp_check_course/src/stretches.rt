@@ -3,13 +3,14 @@ ghost use Rattle.std.specs.Prelude.{◌≡◌, ◌≢◌, ◌<◌, ◌≤◌, �
 ghost use Rattle.gtp_wire.specs.declared.commands.Command.TheVariants as command;
 ghost use Rattle.gtp_check_course.specs.Questions.{asks, plays, probes, colour_of, act_asked, last_of, pass_asked};
 ghost use Rattle.gtp_check_course.specs.Questions.{elsewhere_asked, own_asked, corner_asked, edge_point};
-ghost use Rattle.gtp_check_course.specs.Questions.{surround_asked, genmove_asked, choice_asked, seek_asked};
+ghost use Rattle.gtp_check_course.specs.Questions.{genmove_asked, choice_asked, seek_asked};
 ghost use Rattle.gtp_check_course.specs.Questions.{is_gap, filled_act, gap_act, swept_act};
 ghost use Rattle.gtp_check_course.specs.Questions.{star_points, star_asked, IsQuestion};
 ghost use Rattle.gtp_check_course.specs.Places.{most_steps};
 ghost use Rattle.gtp_check_course.specs.Stretches.{steps_of};
 
 use crate::actions::Question;
+use crate::beside::{around_move, on_move, surround};
 use crate::boards::Board;
 use crate::draws::{Draws, drawn_move, probed};
 use crate::kos::{actor_pass, answer, sealed};
@@ -117,6 +118,10 @@ pub enum Stretch {
     Swept,
     /// A move of the engine's own, for the colour that plays this one's moves.
     Chosen(Colour),
+    /// A move on the point of the game's move of this number, counted from 0, in each colour.
+    OnMove(usize),
+    /// Moves next to that point, of the colour that didn't play there.
+    AroundMove(usize),
     /// The same, with the colour written in full.
     ChosenInFull(Colour),
     /// `list_commands`. (The standard's topic list_commands: it lists all known commands, one a row, and each engine
@@ -169,7 +174,8 @@ impl Stretch {
             Stretch::Corner => 2 * LINES * LINES,
             Stretch::Edges => 6,
             Stretch::Stars => 18,
-            Stretch::Surround | Stretch::Swept => 4,
+            Stretch::OnMove(_) => 2,
+            Stretch::Surround | Stretch::AroundMove(_) | Stretch::Swept => 4,
             Stretch::Filled | Stretch::Sealed => 625,
             Stretch::Gaps => 3,
             Stretch::Points => 1875,
@@ -207,6 +213,8 @@ impl Stretch {
             Stretch::Kill => Question::Kill,
             Stretch::Chosen(colour) => ask(Command::Genmove(board.way.colour(colour))),
             Stretch::ChosenInFull(colour) => choose_in_full(colour, board),
+            Stretch::OnMove(number) => on_move(step, game.moves().get(number).copied()),
+            Stretch::AroundMove(number) => around_move(step, game.moves().get(number).copied()),
             Stretch::List => Question::Ask(CheckCommand::ListCommands),
             Stretch::Moves => play_act(act_of(step as usize, board), board),
             Stretch::MovesInFull => play_in_full(act_of(step as usize, board), board),
@@ -408,23 +416,6 @@ fn star_points(size: Size) -> ArrayVec<Point, 9>
         None
     };
     most.unwrap_or_default()
-}
-
-/// White's move next to a point, if there is one: on its left, on its right, below it or above it.
-fn surround(step: u32, point: Option<Point>) -> Question
-    ensures { result ≡ surround_asked step point }
-{
-    let Some(point) = point else {
-        return Question::Nothing;
-    };
-    let (column, row) = (point.column(), point.row());
-    let vertex = match step {
-        0 => crossing(column - 1, row),
-        1 => crossing(column + 1, row),
-        2 => crossing(column, row - 1),
-        _ => crossing(column, row + 1),
-    };
-    play(Colour::White, vertex)
 }
 
 /// A `genmove` of the colour whose turn it is, or of the other one, or an `undo`.

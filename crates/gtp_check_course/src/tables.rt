@@ -170,6 +170,43 @@ pub(crate) static START: [Stretch; 23] = [
     Stretch::Own,
 ];
 
+/// Moves of the engine's own on an empty board, for White and for Black; for Black right after a move of Black; and two
+/// in a row for White. Nobody may play on their points. Then the other colour surrounds them, and may play there, since
+/// they are captured: a stone of the wrong colour isn't. (The standard's topic genmove. A bug spoils a match.)
+pub(crate) static PLACED: [Stretch; 31] = [
+    Stretch::Seek,
+    Stretch::Size,
+    Stretch::Taken,
+    Stretch::Komi,
+    Stretch::Clear,
+    Stretch::Chosen(Colour::White),
+    Stretch::OnMove(0),
+    Stretch::AroundMove(0),
+    Stretch::OnMove(0),
+    Stretch::Clear,
+    Stretch::Chosen(Colour::Black),
+    Stretch::OnMove(0),
+    Stretch::AroundMove(0),
+    Stretch::OnMove(0),
+    Stretch::Clear,
+    Stretch::Elsewhere,
+    Stretch::Chosen(Colour::Black),
+    Stretch::OnMove(1),
+    Stretch::AroundMove(0),
+    Stretch::AroundMove(1),
+    Stretch::OnMove(1),
+    Stretch::Clear,
+    Stretch::Chosen(Colour::White),
+    Stretch::Chosen(Colour::White),
+    Stretch::OnMove(0),
+    Stretch::OnMove(1),
+    Stretch::AroundMove(0),
+    Stretch::AroundMove(1),
+    Stretch::OnMove(0),
+    Stretch::OnMove(1),
+    Stretch::Clear,
+];
+
 /// A few commands after a restart, whose lines are sent in chunks. (The standard's topic command structure: a command
 /// ends with a newline. A bug can spoil a match: the system may deliver the bytes of a line in chunks.)
 pub(crate) static PIECES: [Stretch; 8] = [

@@ -1,4 +1,5 @@
 //! The course, asked of engines in memory, and what its steps are.
+mod beside;
 mod courses;
 mod draws;
 mod full_boards;

@@ -2,7 +2,7 @@
 from tests.engines.wrong.bug import FORCED, KO, Bug, Keeping, instead_of, on, removed, shown_by
 from tests.references.engine.engine import Failure
 from tests.references.engine.game import EMPTY, Board, in_order, points
-from tests.references.engine.values import PASS, WHITE, other
+from tests.references.engine.values import BLACK, PASS, WHITE, other
 
 # White's only legal play is A1, which takes the stone on B1. Then Black may not take back.
 FORCED_KO = "b A2 b A3 b B3 b B1 w C1 w C2 w B2"
@@ -90,6 +90,16 @@ def stone_by_turn(self, right, arguments):
     self.need_room()
     point = self.choose(colour)
     self.move(other(self.moves[-1][0]) if self.moves else colour, point)
+    return self.write_vertex(point)
+
+
+@instead_of("do_genmove", on(2, "", "komi 0", "genmove w", "final_score"), "= W+4")
+def first_stone_is_blacks(self, right, arguments):
+    """The first stone of a game is Black's, whatever colour is asked for."""
+    if self.board or self.moves:
+        return right(arguments)
+    point = self.choose(self.argument(arguments, 0, self.read_colour))
+    self.move(BLACK, point)
     return self.write_vertex(point)
 
 

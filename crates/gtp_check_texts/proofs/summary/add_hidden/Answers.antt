@@ -13,7 +13,7 @@ loop-lesson-preserved c =
 
 pub returns : goal.returns
 returns c =
-    let whole : c.loop-lesson.lesson-index ≡ 13 =
+    let whole : c.loop-lesson.lesson-index ≡ 14 =
     omega (arith, c.loop-lesson-test.false, c.loop-lesson.auto.lesson-index-end) in
     c.loop-lesson.invariant
     ∙ ap (λ number.

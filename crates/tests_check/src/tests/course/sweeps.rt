@@ -122,8 +122,9 @@ fn sixteen_komis_are_asked_and_each_lesson_has_a_name_of_its_own(rt: HostRuntime
 }
 
 /// The names of the lessons, in the order of a course.
-static NAMES: [&str; 13] = [
+static NAMES: [&str; 14] = [
     "start",
+    "placed",
     "sizes",
     "ko",
     "captures",
@@ -140,7 +141,7 @@ static NAMES: [&str; 13] = [
 
 #[test]
 fn lessons_have_names_and_an_order(rt: HostRuntime) {
-    assert_equal(&rt, LESSONS.len(), 13);
+    assert_equal(&rt, LESSONS.len(), 14);
     for (number, (lesson, name)) in LESSONS.iter().zip(NAMES).enumerate() {
         assert_equal_for(&rt, number, lesson.name(), name);
         assert_equal_for(&rt, name, lesson.number(), number);
