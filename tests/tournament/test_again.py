@@ -4,11 +4,13 @@ from __future__ import annotations
 import os
 import re
 import signal
+from itertools import count
 from pathlib import Path
 from typing import Dict, List, NamedTuple, Tuple
 
 import pytest
 
+from .inside import module
 from .runner import RANDOM, Runner, engines, kill
 
 GAME = "1_one_two"
@@ -79,7 +81,8 @@ def test_game_with_an_abandoned_side_is_played_again(runner: Runner) -> None:
     [
         pytest.param(
             [],
-            "2 of 2 games have a result, 2 of them unfit or abandoned: --again plays these again\n",
+            "2 of 2 games have a result, 2 of them unfit or abandoned: "
+            "--again plays these again\n",
             id="all",
         ),
         pytest.param(
@@ -126,7 +129,9 @@ def test_reason_is_added_to_the_log(lost: Runner) -> None:
     before = kept(lost)
     lost.script("two", AFTER_ITS_TRIAL.format("exit 3"))
     done = lost.tournament("play", "all", "--again", "--jobs", "1")
-    last = "2 of 2 games have a result, 2 of them unfit or abandoned: --again plays these again"
+    last = (
+        "2 of 2 games have a result, 2 of them unfit or abandoned: --again plays these again"
+    )
     assert (done.status, done.output.splitlines()[-1]) == (1, last)
     reason = f"{NO_NEW}: two wasn't started: it ended "
     lines = re.findall(r"^tournament: (\w+): (.*)", done.errors, re.MULTILINE)
@@ -259,28 +264,27 @@ def test_notes_in_the_directory_of_the_lock_are_read(text: str, seconds: str, lo
     assert row_of(lost) == f"abandoned white,black,0,{seconds}"
 
 
-def is_read(fifo: Path) -> bool:
-    """Lets a process go on that opens a FIFO to read it, and tells whether there is one."""
-    try:
-        os.close(os.open(fifo, os.O_WRONLY | os.O_NONBLOCK))
-    except OSError:
-        return False
-    return True
+@pytest.mark.parametrize("moved_at", range(3))
+def test_notes_are_moved_while_they_are_looked_for(
+    moved_at: int, tmp_path: Path, monkeypatch: pytest.MonkeyPatch
+) -> None:
+    """They are moved before one of the looks for them."""
+    results = module("store.results")
+    line, bytes_of, looks = "B+R moves 1 restarts 0 0", results.bytes_of, count()
+    place, beside = tmp_path / f"notes/{GAME}", tmp_path / f"running/{GAME}/notes"
+    for at, text in ((place, notes(OLD)), (beside, notes(line))):
+        at.parent.mkdir(parents=True)
+        at.write_text(text)
 
+    def look(path: str) -> object:
+        """Returns the bytes of a file."""
+        if next(looks) == moved_at:
+            beside.replace(place)
+        return bytes_of(path)
 
-def test_notes_are_moved_while_they_are_looked_for(lost: Runner) -> None:
-    line = "B+R moves 1 restarts 0 0"
-    lost.write(f"all/games/{GAME}", f"game 1: {line}\nD4\n")
-    first, second = lost.folder / f"all/notes/{GAME}", lost.folder / f"all/running/{GAME}/notes"
-    first.unlink()
-    second.parent.mkdir()
-    os.mkfifo(first)
-    os.mkfifo(second)
-    export = lost.start("tournament", "export", "all", "--csv")
-    lost.wait_until(lambda: is_read(first))
-    os.replace(lost.write("new", notes(line, "0.750")), first)
-    lost.wait_until(lambda: is_read(second))
-    assert ",B+R,black,1,0.75,0.0," in lost.finish(export).output
+    monkeypatch.setattr(results, "bytes_of", look)
+    found = module("store.notes").bytes_for(str(tmp_path), GAME, line)
+    assert found == notes(line).encode()
 
 
 def test_notes_that_cannot_be_read_are_none(lost: Runner) -> None:

@@ -1,11 +1,11 @@
 """The results in PGN, for programs that rate players."""
 from __future__ import annotations
 
-from typing import Iterable, Iterator
+from typing import Iterator
 
 from ..model import FORFEITS, Ending, Way
 from ..relay.clock import read_clock, written
-from ..stats.records import Record
+from ..stats.records import Record, Records, Terms
 from .times import time_control
 
 TERMINATIONS = {  # of PGN; where a way isn't among them, the game is unterminated
@@ -18,22 +18,26 @@ TERMINATIONS = {  # of PGN; where a way isn't among them, the game is unterminat
 }
 
 
-def as_pgn(records: Iterable[Record], event: str) -> Iterator[str]:
+def as_pgn(records: Records, event: str) -> Iterator[str]:
     """Yields each game in PGN: without its moves, which are no chess moves, but with all else in
     tags."""
+    clock = records.terms.clock
+    control = time_control(read_clock(clock)) if clock else None
+    first, end = text_of({"Event": quoted(event)}), text_of(
+        tags_of_all(records.terms, records.rule)
+    )
     for record in records:
         points = points_of(record.ending)
-        tags = tags_of(record, event, points)
-        lines = [f'[{name} "{quoted(value)}"]' for name, value in tags.items() if value is not None]
-        yield "\n".join([*lines, "", points, ""])
+        own = text_of(tags_of(record, points, control))
+        yield f"{first}{own}{end}\n{points}\n"
 
 
-def tags_of(record: Record, event: str, points: str) -> dict[str, object]:
-    """Returns the tags of a game; None for what isn't known."""
+def tags_of(record: Record, points: str, control: str | None) -> dict[str, object]:
+    """Returns the tags of a game, by its points and the clock as PGN has it; None for what isn't
+    known."""
     date, _, time = (record.date or "").replace("-", ".").removesuffix("Z").partition("T")
     return {
-        "Event": event,
-        "Site": record.host or "?",
+        "Site": quoted(record.host or "?"),
         "Date": date or "????.??.??",
         "Round": record.seed,
         "White": record.white,
@@ -41,24 +45,36 @@ def tags_of(record: Record, event: str, points: str) -> dict[str, object]:
         "Result": points,
         "UTCDate": date or None,
         "UTCTime": time or None,
-        "TimeControl": time_control(read_clock(record.clock)) if record.clock else None,
+        "TimeControl": control,
         "Termination": termination(record.ending),
         "Verdict": record.verdict,
         "Moves": record.moves,
         "Opening": record.opening,
         "BlackSeconds": record.black_seconds,
         "WhiteSeconds": record.white_seconds,
-        "BlackVersion": record.black_version,
-        "WhiteVersion": record.white_version,
-        "ControllerVersion": record.twogtp_version,
-        "Rule": record.rule,
-        "Size": record.size,
-        "Komi": written(record.komi),
-        "Handicap": record.handicap or None,
-        "Ruleset": record.ruleset,
-        "Clock": record.clock,
-        "MoveLimit": record.move_limit,
+        "BlackVersion": quoted(record.black_version),
+        "WhiteVersion": quoted(record.white_version),
+        "ControllerVersion": quoted(record.twogtp_version),
     }
+
+
+def tags_of_all(terms: Terms, rule: str) -> dict[str, object]:
+    """Returns the last tags, which all games have."""
+    return {
+        "Rule": rule,
+        "Size": terms.size,
+        "Komi": written(terms.komi),
+        "Handicap": terms.handicap or None,
+        "Ruleset": terms.ruleset,
+        "Clock": terms.clock,
+        "MoveLimit": terms.move_limit,
+    }
+
+
+def text_of(tags: dict[str, object]) -> str:
+    """Returns tags as lines."""
+    lines = [f'[{name} "{value}"]\n' for name, value in tags.items() if value is not None]
+    return "".join(lines)
 
 
 def points_of(ending: Ending) -> str:
@@ -77,6 +93,7 @@ def termination(ending: Ending) -> str:
     return TERMINATIONS.get(ending.way, "unterminated")
 
 
-def quoted(value: object) -> str:
-    """Returns a value within quotes."""
-    return str(value).replace("\\", "\\\\").replace('"', '\\"')
+def quoted(text: str | None) -> str | None:
+    """Returns a text, if there is one, as it is within quotes. Only those of machines and programs
+    need it, and the name of a folder."""
+    return text and text.replace("\\", "\\\\").replace('"', '\\"')

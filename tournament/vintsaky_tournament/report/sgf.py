@@ -11,7 +11,7 @@ from ..config.setup import Setup
 from ..model import Ending, Move, Plan, Side, Way
 from ..output import Mistake
 from ..relay.clock import read_clock, written
-from ..stats.records import Record, Records
+from ..stats.records import Record, Records, Terms
 from ..store.notes import bytes_for
 from .times import MoveTime, overtime, times_of
 
@@ -26,6 +26,7 @@ class Sheet:
     def __init__(self, plan: Plan, folder: str) -> None:
         setup, self.folder = Setup(plan.options), folder
         self.plan, self.size, self.handicap = plan, setup.rows(), setup.stones()
+        self.terms = Terms.of_plan(plan)
         self.stones = handicap_points(self.size, self.handicap)
         self.first = Side.WHITE if self.stones else Side.BLACK
         self.clock = read_clock(plan.clock) if plan.clock else None
@@ -43,15 +44,15 @@ class Sheet:
 
     def root(self, record: Record) -> dict[str, sgf.Values]:
         """Returns the properties of a game's root."""
-        version, clock = record.twogtp_version, self.clock
+        version, clock, terms = record.twogtp_version, self.clock, self.terms
         properties = {
             "FF": "4",
             "GM": "1",
             "CA": "UTF-8",
             "AP": version and sgf.composed_value("twogtp", version),
             "SZ": str(self.size),
-            "RU": record.ruleset,
-            "KM": written(record.komi),
+            "RU": terms.ruleset,
+            "KM": written(terms.komi),
             "HA": str(self.handicap) if self.handicap else None,
             "TM": clock and written(clock.main),
             "OT": clock and overtime(clock),
@@ -60,7 +61,7 @@ class Sheet:
             "PW": record.white,
             "RE": result(record.verdict, record.ending),
             "GN": record.game,
-            "GC": sgf.text_value("\n".join(comments(record))),
+            "GC": sgf.text_value("\n".join(comments(record, terms))),
             "C": sgf.text_value(record.verdict),
             "AB": [sgf.point_value(stone, self.size) for stone in self.stones],
         }
@@ -82,7 +83,7 @@ class Sheet:
         return {**properties}
 
 
-def comments(record: Record) -> Iterator[str]:
+def comments(record: Record, terms: Terms) -> Iterator[str]:
     """Yields what SGF has no properties for: what a failure counts, the engines' versions, and the
     limit of a move."""
     yield record.rule
@@ -90,8 +91,8 @@ def comments(record: Record) -> Iterator[str]:
         yield f"Black: {record.black_version}"
     if record.white_version:
         yield f"White: {record.white_version}"
-    if record.move_limit:
-        yield f"Limit of a move: {written(record.move_limit)} s"
+    if terms.move_limit:
+        yield f"Limit of a move: {written(terms.move_limit)} s"
 
 
 def result(verdict: str, ending: Ending) -> str:

@@ -1,7 +1,7 @@
 """What is known of each game that has a result, for exports."""
 from __future__ import annotations
 
-from typing import Iterator, NamedTuple, Sequence
+from typing import Iterator, NamedTuple
 
 from ..cluster import Share
 from ..config.setup import Setup
@@ -13,6 +13,24 @@ from .endings import Endings, Rules
 ALL = Share(1, 1)
 LONGEST_HOST = 64  # characters
 RULESET = "Chinese"  # of twogtp: area scoring, simple ko, no suicide
+
+
+class Terms(NamedTuple):
+    """What all games of a plan are played by."""
+
+    size: int
+    komi: float
+    handicap: int
+    ruleset: str
+    clock: str | None
+    move_limit: float | None  # seconds
+
+    @classmethod
+    def of_plan(cls, plan: Plan) -> Terms:
+        """Returns those of a plan."""
+        setup, limit = Setup(plan.options), plan.move_limit
+        komi, seconds = setup.half_points() / 2, float(limit) if limit else None
+        return cls(setup.rows(), komi, setup.stones(), RULESET, plan.clock, seconds)
 
 
 class Record(NamedTuple):
@@ -34,49 +52,20 @@ class Record(NamedTuple):
     twogtp_version: str | None
     rule: str  # what a game counts in which a side failed
     date: str | None  # when it began, in UTC
-    size: int
-    komi: float
-    handicap: int
-    ruleset: str
-    clock: str | None
-    move_limit: float | None  # seconds
     ending: Ending
     result: Result
 
-    @property
-    def values(self) -> Sequence[object]:
-        """Returns the values of FIELDS."""
-        return self[: len(FIELDS)]
+
+OWN_FIELDS = Record._fields[:-2]  # of a table, in which each game has its own values
+FIELDS = (*OWN_FIELDS, *Terms._fields)
 
 
-FIELDS = Record._fields[:-2]
+class Machine(NamedTuple):
+    """A machine on which games were played: its name, and the versions of the programs as they were
+    tried there."""
 
-
-class Terms(NamedTuple):
-    """What all games of a plan are played by."""
-
-    size: int
-    komi: float
-    handicap: int
-    ruleset: str
-    clock: str | None
-    move_limit: float | None
-
-    @classmethod
-    def of_plan(cls, plan: Plan) -> Terms:
-        """Returns those of a plan."""
-        setup, limit = Setup(plan.options), plan.move_limit
-        komi, seconds = setup.half_points() / 2, float(limit) if limit else None
-        return cls(setup.rows(), komi, setup.stones(), RULESET, plan.clock, seconds)
-
-
-class FromNotes(NamedTuple):
-    """What the notes of a game say: the machine, when it began, and how long both sides thought."""
-
-    host: str | None = None
-    date: str | None = None
-    black_seconds: float | None = None
-    white_seconds: float | None = None
+    name: str | None
+    versions: dict[str, str | None]
 
 
 class Records:
@@ -85,8 +74,8 @@ class Records:
     def __init__(self, plan: Plan, folder: str, rules: Rules) -> None:
         self.plan, self.folder, self.games = plan, folder, plan.games()
         self.endings, self.rule = Endings(plan, folder, rules), rules.text()
-        self.terms = Terms.of_plan(plan)._asdict()
-        self.versions: dict[str | None, dict[str, str | None]] = {None: {}}  # on each machine
+        self.terms = Terms.of_plan(plan)
+        self.machines: dict[str, Machine] = {}  # by their names in notes
         self.without = self.games.count  # those that have no result
 
     def __iter__(self) -> Iterator[Record]:
@@ -102,8 +91,10 @@ class Records:
         seed, at = divmod(game, len(self.games.sides))
         (black, white), name = self.games.sides[at], self.games.name(game)
         (ending, _, verdict), openings = self.endings.of(game, result), self.plan.openings
-        noted = self.from_notes(name, result)
-        versions = self.versions_on(noted.host)
+        thought = self.thought(name, result)
+        machine = self.machine(thought.host if thought else "")
+        versions = machine.versions
+        black_seconds, white_seconds = thought.seconds if thought else (None, None)
         return Record(
             game=name,
             black=black,
@@ -113,33 +104,34 @@ class Records:
             verdict=verdict,
             winner=None if ending.winner is None else ending.winner.colour,
             moves=result.length,
-            black_seconds=noted.black_seconds,
-            white_seconds=noted.white_seconds,
-            host=noted.host,
+            black_seconds=black_seconds,
+            white_seconds=white_seconds,
+            host=machine.name,
             black_version=versions.get(f"engine {black}"),
             white_version=versions.get(f"engine {white}"),
             twogtp_version=versions.get("twogtp"),
             rule=self.rule,
-            date=noted.date,
-            **self.terms,
+            date=thought.date or None if thought else None,
             ending=ending,
             result=result,
         )
 
-    def from_notes(self, name: str, result: Result) -> FromNotes:
-        """Returns what the notes of a game say, if they are of this result."""
-        found = self.endings.index.noted(name)
-        found = found or notes.noted_in(self.folder, name, result.line)
+    def thought(self, name: str, result: Result) -> notes.Thought | None:
+        """Returns how long both sides thought, if the notes of a game are of this result."""
+        found = self.endings.index.thought(name)
         if found is None:
-            return FromNotes()
-        host = found.host if is_host(found.host) else None
-        return FromNotes(host, found.date or None, *found.thought)
+            noted = notes.noted_in(self.folder, name, result.line)
+            found = noted and notes.Thought(noted.host, noted.date, noted.thought)
+        return found
 
-    def versions_on(self, host: str | None) -> dict[str, str | None]:
-        """Returns the versions of the programs on a machine, as they were tried there."""
-        if host not in self.versions:
-            self.versions[host] = versions_of(f"{self.folder}/tried/{host}")
-        return self.versions[host]
+    def machine(self, host: str) -> Machine:
+        """Returns the machine that has this name in notes; one without a name where it is none."""
+        found = self.machines.get(host)
+        if found is None:
+            is_known = is_host(host)
+            versions = versions_of(f"{self.folder}/tried/{host}") if is_known else {}
+            found = self.machines[host] = Machine(host if is_known else None, versions)
+        return found
 
 
 def is_host(text: str) -> bool:

@@ -18,7 +18,7 @@ from zlib import crc32
 
 from .. import output
 from ..model import Plan, Result
-from .notes import Noted, Notes
+from .notes import Noted, Notes, Thought
 from .results import Rule
 
 SUM = 8  # the digits of a sum
@@ -120,8 +120,24 @@ class Index:
     def noted(self, game: str) -> Noted | None:
         """Returns what the notes of a game say, whose result was found last; None where they are to
         be read."""
-        line, place = self.latest, f"{self.folder}/notes/{game}"
-        return noted_of(line) if line and is_like(place, line.notes_file) else None
+        line = self.with_notes(game)
+        return noted_of(line) if line else None
+
+    def thought(self, game: str) -> Thought | None:
+        """Returns less of the same, which is all that exports need, and there sooner."""
+        line = self.with_notes(game)
+        if line is None:
+            return None
+        black, white, _ = line.numbers.split(" ", 2)
+        return Thought(line.host, line.date, (float(black), float(white)))
+
+    def with_notes(self, game: str) -> Line | None:
+        """Returns the line of the game whose result was found last, if its notes are as they were
+        when they were read."""
+        line = self.latest
+        if line is None or line.notes_file == NOTHING:
+            return None
+        return line if is_like(f"{self.folder}/notes/{game}", line.notes_file) else None
 
     def forget(self) -> None:
         """Forgets all lines, which take as much room as the results."""

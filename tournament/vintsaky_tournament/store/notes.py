@@ -21,7 +21,6 @@ At the end are the times of both sides, and the result.
 """
 from __future__ import annotations
 
-import contextlib
 import re
 from typing import NamedTuple
 
@@ -47,8 +46,16 @@ class Awaited(NamedTuple):
     text: str
 
 
+class Thought(NamedTuple):
+    """On which machine a game was played, when it began, and how long both sides thought."""
+
+    host: str
+    date: str  # empty where it isn't noted
+    seconds: tuple[float, float]
+
+
 class Noted(NamedTuple):
-    """What tallies and exports need of the notes of a game, of Black and of White."""
+    """What tallies need of the notes of a game, of Black and of White."""
 
     host: str  # on which it was played
     date: str  # when it began; empty where that isn't noted
@@ -109,7 +116,7 @@ class Notes:
             self.longest[side] = max(self.longest[side], seconds)
 
     def noted(self) -> Noted:
-        """Returns what tallies and exports need, with seconds to a thousandth."""
+        """Returns what tallies need, with seconds to a thousandth."""
         (black, white), moved, longest = self.thought, self.moved, self.longest
         return Noted(
             self.host,
@@ -227,14 +234,16 @@ def bytes_for(folder: str, name: str, line: str) -> bytes | None:
     """Returns the notes of a game, if they are of a result with this line.
 
     For a moment, or where its process was killed in that, those of a game that was played again
-    still lie next to its lock.
+    still lie next to its lock. Where they don't, they are in their place by now.
     """
-    place, end = f"{folder}/notes/{name}", f"\nresult: {line}\n".encode()
-    for each in (place, f"{folder}/running/{name}/notes", place):
-        with contextlib.suppress(OSError):
-            data = results.bytes_of(each)
-            if data.endswith(end):
-                return data
+    end = f"\nresult: {line}\n".encode()
+    for place in (f"{folder}/running/{name}/notes", f"{folder}/notes/{name}"):
+        try:
+            data = results.bytes_of(place)
+        except OSError:
+            continue
+        if data.endswith(end):
+            return data
     return None
 
 
