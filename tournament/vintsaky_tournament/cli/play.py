@@ -6,7 +6,7 @@ from typing import TYPE_CHECKING, NamedTuple
 
 from .. import output
 from ..cluster import share, time_left
-from ..config.arguments import OF_PLAY, Arguments, processors
+from ..config.arguments import OF_PLAY, OF_TEST, Arguments, processors
 from ..config.changes import Folder, plan_for, warning_of
 from ..config.plan_file import read_plan
 from ..config.plan_writing import write_plan
@@ -15,7 +15,6 @@ from ..model import Engine, Plan
 from ..output import Mistake
 from ..play.programs import find, find_twogtp, try_options
 from ..store.layout import make_folders
-from .sprt import asked_of
 
 if TYPE_CHECKING:
     from ..cluster import Share
@@ -134,7 +133,7 @@ def do_play(arguments: Arguments) -> int:
     commands = {name: arguments.last(name, hook) for name in (ON_END, ON_FAILURE)}
     if folder.surplus:
         output.report(folder.surplus)
-    asked = asked_of(arguments, plan)
+    asked = asked_test(arguments, plan)
     if arguments.has("--dry-run"):
         return dry_run(prepared, task, arguments.has("--again"))
     writer = page_writer(arguments, folder.place, asked)
@@ -151,6 +150,15 @@ def do_play(arguments: Arguments) -> int:
             writer.end()
     hooks.end(status)
     return status
+
+
+def asked_test(arguments: Arguments, plan: Plan) -> TestRequest | None:
+    """Returns the sequential test that the options ask for, if they do."""
+    if not any(map(arguments.has, OF_TEST)):
+        return None
+    from .sprt import asked_of  # which isn't needed elsewhere
+
+    return asked_of(arguments, plan)
 
 
 def page_writer(arguments: Arguments, folder: str, asked: TestRequest | None) -> PageWriter | None:

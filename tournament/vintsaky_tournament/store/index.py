@@ -62,13 +62,21 @@ def add(
         parts[3], parts[6:] = mark_of(notes[0]), [noted.host, noted.date, numbers_of(noted)]
     text = "\t".join(parts).encode("latin-1")
     with contextlib.suppress(OSError):
-        os.makedirs(f"{folder}/index", exist_ok=True)
-        place = f"{folder}/index/{os.uname().nodename}"
-        index = os.open(place, os.O_WRONLY | os.O_APPEND | os.O_CREAT, 0o666)
+        index = opened(f"{folder}/index")
         try:
             output.write_bytes(index, b"%08x\t%b\n" % (crc32(text), text))
         finally:
             os.close(index)
+
+
+def opened(folder: str) -> int:
+    """Opens the file of this machine, to write at its end, and returns the descriptor."""
+    place, flags = f"{folder}/{os.uname().nodename}", os.O_WRONLY | os.O_APPEND | os.O_CREAT
+    try:
+        return os.open(place, flags, 0o666)
+    except FileNotFoundError:
+        os.makedirs(folder, exist_ok=True)
+        return os.open(place, flags, 0o666)
 
 
 def numbers_of(noted: Noted) -> str:
