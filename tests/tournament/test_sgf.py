@@ -44,6 +44,11 @@ def test_main_line_is_the_first_variation() -> None:
     assert moves_of(text) == [("B", (1, 9)), ("W", (2, 8)), ("B", (3, 7)), ("W", None)]
 
 
+@pytest.mark.parametrize("end", ["\x1a", "\r\n\x1a", "\0", "\x1a\0\0\n"])
+def test_end_of_a_file_of_dos(end: str) -> None:
+    assert moves_of(f"(;SZ[9];B[aa]){end}") == [("B", (1, 9))]
+
+
 def test_very_long_line_of_variations() -> None:
     depth = 20000
     text = "(;B[aa]" * depth + ")" * depth
@@ -135,6 +140,9 @@ WRONG = {
         "line 1, column 16: ';' isn't expected here: a variation is in parentheses",
     ),
     "a parenthesis too much": ("(;))", "line 1, column 4: ')' isn't expected here: a game begins"),
+    "what no tool ends a file with": ("(;)\x1b", "line 1, column 4: '\x1b' isn't expected here"),
+    "an end between games": ("(;)\x1a(;)", "line 1, column 4: '\x1a' isn't expected here: a game"),
+    "an end in a game": ("(;B[aa]\x1a", "line 1, column 1: the game that begins here lacks its"),
     "text between games": ("(;)\nB[aa](;)", "line 2, column 1: 'B' isn't expected here: a game"),
     "a large board": ("(;SZ[26];B[aa])", "line 1, column 5: SZ needs a size from 1 to 25"),
     "no square": (

@@ -33,6 +33,7 @@ NODES_IN_A_LINE = 10  # of what is written
 LINE_BREAK = re.compile("\r\n|\n\r|\r")
 BEGIN = re.compile(r"\(\s*;", re.ASCII)
 SPACE = re.compile(r"\s*", re.ASCII)
+AT_END = " \t\n\v\f\x1a\0"  # Ctrl-Z and NUL are what tools of DOS end or fill a file with
 NAME = re.compile("[A-Za-z]+")  # in versions before FF[4] also with lower case, which says nothing
 VALUE = re.compile(r"\[([^\]\\]*(?:\\.[^\]\\]*)*)\]", re.DOTALL)
 CHARSET = re.compile(rb"CA\s*\[\s*([\w.:-]+)\s*\]")
@@ -177,7 +178,7 @@ class Reader:
     """Reads a collection."""
 
     def __init__(self, text: str) -> None:
-        self.text = LINE_BREAK.sub("\n", text)
+        self.text = LINE_BREAK.sub("\n", text).rstrip(AT_END)
         self.starts = [0, *(found.end() for found in re.finditer("\n", self.text))]  # of lines
         self.at = 0
         self.games: List[Node] = []
