@@ -96,13 +96,16 @@ def test_two_tasks(fails: int, runner: Runner) -> None:
     """Each has the games with one colour, and waits for those of the other one."""
     plan(runner, waits=22 if fails else 21, fails=fails)
     words = ["tournament", "play", "all", "--sprt", "0", "100", "--jobs", "2", "--task"]
-    line = LINE.format(20)
+    said, tallied = LINE.format(20), f"{LINE.format(20)}\n"
     if fails:
-        line = LINE.format(21) + "; left out, without a result after their try: 3_"
-    for done in map(runner.finish, [runner.start(*words, task) for task in ("1/2", "2/2")]):
-        assert (done.status, last_lines(done)[-1].startswith(line)) == (0, True)
+        why = "without a result after their try: 3_"
+        said = LINE.format(21) + "; left out, as far as task {} knows, " + why
+        tallied = f"{LINE.format(21)}; left out, {why}one_two, 3_two_one\n"
+    tasks = ("1/2", "2/2")
+    runs = [runner.start(*words, task) for task in tasks]
+    for task, done in zip(tasks, map(runner.finish, runs)):
+        assert (done.status, last_lines(done)[-1].startswith(said.format(task))) == (0, True)
     assert runner.is_idle()
-    tallied = f"{line}one_two, 3_two_one\n" if fails else f"{line}\n"
     assert runner.tally("all", "--sprt", "0", "100").output == tallied
 
 

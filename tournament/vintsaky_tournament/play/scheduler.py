@@ -409,7 +409,9 @@ class Play:
         if self.counted_games and self.counted_games.test:
             from ..report.text import line_of_test  # which isn't needed elsewhere
 
-            self.print(line_of_test(self.counted_games.test))
+            self.print(
+                line_of_test(self.counted_games.test, f"task {self.share}" if self.share else "")
+            )
         self.say_what_is_not_scored()
         if not self.is_written:
             output.report(f"{counted}; the same command goes on")

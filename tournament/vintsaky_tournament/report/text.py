@@ -232,12 +232,14 @@ def verdict_of(test: Test) -> str:
     return f"{accepted[test.decision]}, at the pair of seed {test.seed}"
 
 
-def line_of_test(test: Test) -> str:
-    """Returns what a sequential test says."""
+def line_of_test(test: Test, task: str = "") -> str:
+    """Returns what a sequential test says. If the task of a run is named that says it, others may
+    know of other games that are left out."""
     said = verdict_of(test) or "go on"
     count = f"{sum(test.counts)} pairs{lacking(test.counts)}"
     games = ", ".join(map(test.pairs.games.name, test.left_out()))
-    left_out = f"; left out, without a result after their try: {games}" if games else ""
+    known = f"as far as {task} knows, " if task else ""
+    left_out = f"; left out, {known}without a result after their try: {games}" if games else ""
     return f"{' - '.join(test.engines)}: {said}: {count}, {ratios_of(test)}{left_out}"
 
 
