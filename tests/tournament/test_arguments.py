@@ -326,7 +326,7 @@ FORMS = ["--pgn", "--csv", "--jsonl", "--sgf"]
         ("tournament play", OF_PLAY, OF_GAMES),
         ("tournament plan", [*OF_PLAN, "--dry-run"], ["0", "1", "2"]),
         ("tournament check", [*OF_PLAN, "--jobs"], ["0", "1", "2", "69", "130, 143"]),
-        ("tournament list", ["--all"], ["0", "1", "2", "141"]),
+        ("tournament list", ["--all", "--replaced"], ["0", "1", "2", "141"]),
         ("tournament game", [], OF_GAMES),
         ("tournament export", [*FORMS, *OF_LOSSES], ["0", "1", "2", "141"]),
         ("tournament verify", [], ["0", "1", "2", "141"]),

@@ -44,6 +44,14 @@ def replaced(place: Path, game: str) -> str:
     return f"{where}: another one played {game} and what began later"
 
 
+TO_PLAY = "; tournament list --replaced names 2 games of the one before"
+
+
+def listed(runner: Runner) -> List[str]:
+    """Returns the games of files that were replaced."""
+    return runner.tournament("list", "all", "--replaced").output.split()
+
+
 @pytest.mark.parametrize("words", [[], ["--direct"]], ids=["with between", "direct"])
 def test_replaced_script(words: List[str], runner: Runner) -> None:
     place = runner.script("one.sh", SCRIPT)
@@ -56,10 +64,44 @@ def test_replaced_script(words: List[str], runner: Runner) -> None:
     assert line == f"tournament: {replaced(place, '2_one_two')}"
     assert files(runner) == [before, row(place, "2_one_two")]
     assert play(runner, 3, "./one.sh %s", *words) == []  # it is said once
-    assert f"\n  {replaced(place, '2_one_two')}\n" in runner.tally("all").output
+    assert f"\n  {replaced(place, '2_one_two')}{TO_PLAY}\n" in runner.tally("all").output
     (found,) = json.loads(runner.tally("all", "--json").output)["replaced"]
     host = os.uname().nodename
-    assert found == {"engine": "one", "path": str(place), "host": host, "game": "2_one_two"}
+    games = ["1_one_two", "1_two_one"]
+    seen = {"engine": "one", "path": str(place), "host": host, "game": "2_one_two"}
+    assert (found.pop("games"), found) == (games, seen)
+    assert listed(runner) == games
+    for game in games:
+        (runner.folder / "all/games" / game).unlink()
+    assert play(runner, 3, "./one.sh %s", *words) == []
+    assert ("replaced" in runner.tally("all").output, listed(runner)) == (False, [])
+
+
+def test_old_file_is_back(runner: Runner) -> None:
+    place = runner.script("one.sh", SCRIPT)
+    play(runner, 1)
+    runner.script("one.sh", OTHER)
+    play(runner, 2)
+    runner.script("one.sh", SCRIPT)
+    (line,) = play(runner, 3)
+    assert line == f"tournament: {replaced(place, '3_one_two')}"
+    # those of seed 1 are of the file that is back
+    assert listed(runner) == ["2_one_two", "2_two_one"]
+    assert f"\n  {replaced(place, '3_one_two')}{TO_PLAY}\n" in runner.tally("all").output
+    for game in listed(runner):
+        (runner.folder / "all/games" / game).unlink()
+    assert play(runner, 3) == []
+    assert ("replaced" in runner.tally("all").output, listed(runner)) == (False, [])
+
+
+def test_games_of_a_replaced_file_that_are_not_known(runner: Runner) -> None:
+    place = runner.script("one.sh", SCRIPT)
+    play(runner, 1)
+    runner.script("one.sh", OTHER)
+    play(runner, 2)
+    (runner.folder / "all/games/2_one_two").unlink()  # which says since when
+    assert f"\n  {replaced(place, '2_one_two')}\n" in runner.tally("all").output
+    assert listed(runner) == []
 
 
 def test_file_with_the_same_bytes_is_not_another(runner: Runner) -> None:

@@ -7,6 +7,7 @@ from ..config.plan_file import read_plan
 from ..model import State
 from ..output import Mistake
 from ..store import results
+from ..store.engine_files import replaced_in
 
 
 def do_list(arguments: Arguments) -> int:
@@ -15,7 +16,10 @@ def do_list(arguments: Arguments) -> int:
     plan = read_plan(folder)
     games = plan.games()
     names = iter(games)
-    if not arguments.has("--all"):
+    if arguments.has("--replaced"):
+        named = {name for found in replaced_in(folder) for name in found.games or ()}
+        names = (name for name in games if name in named)
+    elif not arguments.has("--all"):
         states = results.states_of(plan, folder)
         names = (
             games.name(game)

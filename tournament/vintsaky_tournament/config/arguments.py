@@ -97,7 +97,7 @@ OPTIONS: Mapping[str, Options] = {
     "play": OF_PLAN,
     "plan": OF_PLAN,
     "check": OF_CHECK,
-    "list": {"--all": None},
+    "list": {"--all": None, "--replaced": None},
     "game": {},
     "export": OF_EXPORT,
     "verify": {},

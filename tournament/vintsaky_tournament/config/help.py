@@ -249,12 +249,15 @@ status: 0  all engines played
         ]
     ),
     "list": """\
-usage: tournament list FOLDER [--all]
+usage: tournament list FOLDER [--all | --replaced]
 
 Prints the names of the games that have no result, one in each line, in the
 plan's order. A damaged result counts as none.
 
-  --all  print the names of all games of FOLDER/plan
+  --all       print the names of all games of FOLDER/plan
+  --replaced  print the names of the games that have a result of an engine whose
+              file was replaced later by another one. To play one again, remove
+              its file in FOLDER/games
 
 status: 0  the names are printed
         1  a directory can't be read, or nothing can be written
