@@ -102,6 +102,36 @@ def test_engine_that_crashes(bad: str, status: int, kept: Path, runner: Runner) 
     )
 
 
+def test_crash_after_which_the_game_goes_on(kept: Path, runner: Runner) -> None:
+    # its trial is the first start; the second one ends after three moves, and the third goes on
+    text = 'echo >> starts\n[ "$(wc -l < starts)" = 2 ] && exec gtp_engine --fault stop:3\n'
+    runner.script("crashes", f"{text}exec gtp_engine")
+    both = engines(one="gtp_engine --seed %s", two="./crashes")
+    done = runner.tournament("check", "all", *both, "--jobs", "1", *OPTIONS)
+    (place,) = kept.iterdir()
+    assert "1_one_two: limit moves 20 restarts 0 1, in SECONDS" in without_seconds(done.output)
+    assert "8 games of about 81 moves, 1 at once: TIME" in without_seconds(done.output)
+    assert (done.status, done.errors) == (
+        1,
+        "tournament: two crashed in 1_one_two, and was started again\n"
+        f"tournament: what was written is in {place}\n",
+    )
+
+
+def test_time_of_the_engines_that_played(kept: Path, runner: Runner) -> None:
+    bad = "gtp_engine --seed %s --fault stop:3"
+    three = engines(one="gtp_engine --seed %s", two="gtp_engine --seed %s", bad=bad)
+    words = ["--jobs", "1", *OPTIONS, "--restarts", "0"]
+    done = runner.tournament("check", "all", *three, *words)
+    assert done.status == 1
+    assert done.errors.startswith(
+        "tournament: a side failed, or there is no result: 1_one_bad, 1_two_bad\n"
+    )
+    # of 4 seeds, with both colours: 8 games of one and two, and 16 in which one side is bad
+    said = "8 games of about 81 moves, without 16 of engines that failed, 1 at once: TIME"
+    assert said in without_seconds(done.output)
+
+
 def test_check_is_stopped(kept: Path, runner: Runner) -> None:
     runner.script("waits", "[ -e tried ] && exec sleep 1000; touch tried; exec gtp_engine")
     both = engines(one="gtp_engine --seed %s", two="./waits")

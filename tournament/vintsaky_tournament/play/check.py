@@ -26,9 +26,20 @@ class Sample(NamedTuple):
     seconds: float
     thought: float
 
-    def is_right(self) -> bool:
-        """Returns whether it has a result, in which no side was unfit or abandoned."""
+    def has_ended(self) -> bool:
+        """Returns whether it has a result, in which no side was unfit, abandoned or late."""
         return self.result is not None and not self.result.is_lost()
+
+    def crashed(self) -> list[str]:
+        """Returns the engines that crashed in it, and were started again."""
+        if self.result is None or self.result.is_lost():
+            return []
+        engines = GameId.parse(self.name).engines
+        return [engine for engine, count in zip(engines, self.result.restarts) if count]
+
+    def engines(self) -> frozenset[str]:
+        """Returns both engines."""
+        return frozenset(GameId.parse(self.name).engines)
 
     def estimate(self, opening: int, length: int) -> float:
         """Returns the seconds of a whole game of this length, unless this one ended before its
@@ -103,8 +114,5 @@ def seconds_of_games(plan: Plan, samples: Iterable[Sample], names: Iterable[str]
     """Returns how long these games of a plan take together, by a sample of each two engines. None
     takes longer than its limit."""
     opening, length, most = opening_length(plan), usual_length(plan), float(plan.limit or 0)
-    of_two = {
-        frozenset(GameId.parse(sample.name).engines): min(most, sample.estimate(opening, length))
-        for sample in samples
-    }
+    of_two = {sample.engines(): min(most, sample.estimate(opening, length)) for sample in samples}
     return sum(of_two[frozenset(GameId.parse(name).engines)] for name in names)

@@ -259,6 +259,19 @@ def noted_in(folder: str, name: str, line: str) -> Noted | None:
     return None if data is None else Notes(data.decode("latin-1")).noted()
 
 
+def line_of(folder: str, name: str, result: Result) -> str:
+    """Returns the line of a result in the words of tallies: a side that twogtp has abandoned may
+    have been late, or out of time by its clock."""
+    side = result.abandoned_side()
+    found = None if side is None else late_in(folder, name, result.line)
+    _, _, rest = result.line.partition(" moves ")
+    if side is not None and found and found.out_of_time[side]:
+        return f"{'BW'[side.other]}+T moves {rest}"
+    if side is not None and found and found.late[side]:
+        return f"late {side.colour} moves {rest}"
+    return result.line
+
+
 def is_loss_on_time(folder: str, name: str, result: Result) -> bool:
     """Returns whether the side that was abandoned in a game was out of time by its clock."""
     side = result.abandoned_side()
