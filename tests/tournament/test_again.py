@@ -81,19 +81,19 @@ def test_game_with_an_abandoned_side_is_played_again(runner: Runner) -> None:
     [
         pytest.param(
             [],
-            "2 of 2 games have a result, 2 of them unfit or abandoned: "
+            "2 of 2 games have a result, 2 of them unfit, abandoned or late: "
             "--again plays these again\n",
             id="all",
         ),
         pytest.param(
             ["--task", "2/2"],
-            "1 of 1 games of task 2/2 have a result, 1 of them unfit or abandoned:"
+            "1 of 1 games of task 2/2 have a result, 1 of them unfit, abandoned or late:"
             " --again plays it again\n",
             id="a task",
         ),
         pytest.param(
             ["--seeds", "2", "--task", "1/2", "--time-left", "1"],
-            "1 of 2 games of task 1/2 have a result, 1 of them unfit or abandoned:"
+            "1 of 2 games of task 1/2 have a result, 1 of them unfit, abandoned or late:"
             " --again plays it again; 1 are missing\n",
             id="a task with a missing game",
         ),
@@ -130,7 +130,7 @@ def test_reason_is_added_to_the_log(lost: Runner) -> None:
     lost.script("two", AFTER_ITS_TRIAL.format("exit 3"))
     done = lost.tournament("play", "all", "--again", "--jobs", "1")
     last = (
-        "2 of 2 games have a result, 2 of them unfit or abandoned: --again plays these again"
+        "2 of 2 games have a result, 2 of them unfit, abandoned or late: --again plays these again"
     )
     assert (done.status, done.output.splitlines()[-1]) == (1, last)
     reason = f"{NO_NEW}: two wasn't started: it ended "

@@ -169,8 +169,10 @@ def test_tally_of_many_abandoned_games(count: int, new_runner: NewRunner) -> Non
         write_abandoned(runner, results)
         output, quarter = runner.tally("all").output, results // 4
         assert output.startswith(f"{results} of {results} games have a result, {results} have")
-        for line in (f"abandoned: {quarter}", f"late: {quarter}", f"restarts: {2 * quarter}"):
-            assert f"\n  one: {line}\n" in output
+        of_one = {"abandoned": quarter, "late": quarter}
+        of_one.update(crashes=3 * quarter, restarts=2 * quarter)
+        for cause, times in of_one.items():
+            assert f"\n  one: {cause}: {times}\n" in output
         seconds.append(least_seconds(runner, "tally all"))
     assert seconds[1] <= LONGER * seconds[0]
 

@@ -67,31 +67,31 @@ def test_thinking_time_is_that_of_moves(runner: Runner) -> None:
         pytest.param(
             ["12 white late 5.0: 12 genmove w", "0 white stays ended"],
             "0 2",
-            {"b": {"late": 1, "restarts": 1}},
+            {"b": {"late": 1, "crashes": 1, "restarts": 1}},
             id="White is late",
         ),
         pytest.param(
             ["3 black ended 1.5: 12 genmove b: signal 11"] * 2,
             "2 0",
-            {"a": {"abandoned": 1, "restarts": 2}},
+            {"a": {"abandoned": 1, "crashes": 3, "restarts": 2}},
             id="Black crashes",
         ),
         pytest.param(
             ["0 black not started: /a black late engine: No such file or directory"],
             "2 0",
-            {"a": {"abandoned": 1, "restarts": 2}},
+            {"a": {"abandoned": 1, "crashes": 3, "restarts": 2}},
             id="the name of an engine",
         ),
         pytest.param(
             ["3 black waited 5.0: 12 x white late 1 black stays ended"],
             "2 0",
-            {"a": {"abandoned": 1, "restarts": 2}},
+            {"a": {"abandoned": 1, "crashes": 3, "restarts": 2}},
             id="the text of a command",
         ),
         pytest.param(
             ["thought: black late 5.0, black stays 1.0"],
             "2 0",
-            {"a": {"abandoned": 1, "restarts": 2}},
+            {"a": {"abandoned": 1, "crashes": 3, "restarts": 2}},
             id="no note",
         ),
     ],
@@ -254,8 +254,17 @@ def late(runner: Runner) -> Runner:
     """Returns what has played two games in which `one` was late, in its third move."""
     hangs = HANGS.replace("letters=", "echo start >> starts\nletters=", 1)
     both = engines(one=f"{runner.script('hangs', hangs)} 3", two=f"{RANDOM} %s")
-    limit = ["--move-limit", "4", "--jobs", "2"]  # in which a slow machine moves
+    # in which a slow machine moves
+    limit = ["--move-limit", "4", "--jobs", "2", "--on-end", "cat > end"]
     done = runner.tournament("play", "all", *both, *limit, "--seeds", "1", "--", "--size", "9")
+    *lines, last = done.output.splitlines()
+    assert sorted(line.partition(": ")[2] for line in lines) == [
+        "1_one_two: late black moves 4 restarts 2 0",
+        "1_two_one: late white moves 5 restarts 0 2",
+    ]
+    assert last.startswith("2 of 2 games have a result, 2 of them unfit, abandoned or late: ")
+    failed = json.loads((runner.folder / "end").read_text())["failed"]
+    assert failed == {"1_one_two": "late black", "1_two_one": "late white"}
     assert done.status == 1
     return runner
 

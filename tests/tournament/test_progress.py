@@ -43,7 +43,7 @@ class Run(NamedTuple):
     [
         (
             Run(0, 20, 60, 4, failed=1, lost=3),
-            "4 of 20 games have a result, 3 of them unfit or abandoned, 1 failed; "
+            "4 of 20 games have a result, 3 of them unfit, abandoned or late, 1 failed; "
             "4.0 games a minute, 4 min left",
         ),
         (
@@ -132,7 +132,7 @@ def test_line_counts_abandoned_sides(runner: Runner) -> None:
     runner.pass_trials()
     terminal = Terminal(runner, *PLAY)
     # two games are abandoned, and then one hangs
-    counted = "2 of 4 games have a result, 2 of them unfit or abandoned, 0 failed; "
+    counted = "2 of 4 games have a result, 2 of them unfit, abandoned or late, 0 failed; "
     terminal.wait_for(f"tournament: {counted}")
     assert re.search(r"; \d+\.\d games a minute, \d+ min left", terminal.text)
 

@@ -60,7 +60,9 @@ to look into:
   a: forfeit (refused play): 1
   a: unfit: 2
   a: abandoned: 2
+  a: crashes: 7
   a: restarts: 5
+  b: crashes: 1
   b: restarts: 1
 no result: 6
   8_a_b: not over in 600 seconds
@@ -169,7 +171,7 @@ JSON_OF_B = {
     "drawn": 1,
     "black": {"won": 3, "lost": 1},
     "white": {"won": 3, "lost": 1},
-    "to_look_into": {"restarts": 1},  # its forfeits are the other's
+    "to_look_into": {"crashes": 1, "restarts": 1},  # its forfeits are the other's
     "pairs": [1, 0, 2, 2, 2],
     "pairs_in_interval": 7,
 }

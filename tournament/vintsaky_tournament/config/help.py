@@ -102,8 +102,8 @@ PLAY = """\
 MORE_OF_PLAY = (
     """\
   --pin              each of the N games gets its own share of the processors
-  --again            play games with an unfit or abandoned side again, and try
-                     their engines again
+  --again            play games with an unfit, abandoned or late side again, and
+                     try their engines again
   --task K/T         play only the games K, K+T, K+2T .. of the plan
   --time-left TIME   begin no game that doesn't fit into this time, written as
                      squeue prints it: 1-00:30:00 or 30:00; or in seconds, as 90
@@ -111,9 +111,9 @@ MORE_OF_PLAY = (
                      60 seconds for it. It reads the JSON of tally --json, which
                      also has: event ("end"), folder, task, status (that of the
                      run), and failed: each game of this run without a result or
-                     with an unfit or abandoned side, and each engine that can't
-                     be started, with the reason (100 at most). What CMD writes
-                     goes to standard error, and its end changes nothing
+                     with an unfit, abandoned or late side, and each engine that
+                     can't be started, with the reason (100 at most). What CMD
+                     writes goes to standard error, and its end changes nothing
   --on-failure CMD   the same at the first of these failures in the run, while
                      games go on; event is "failure" then
   --sprt ELO0 ELO1   end the run once a sequential test is over: whether the
@@ -147,27 +147,27 @@ else the one in ../bin or ../../bin, seen from the directory of these scripts,
 or else the one in PATH.
 """
 STATUS = """\
-status: 0  each game has a result, and no side was unfit or abandoned; or the
-           test of --sprt is over. With --task, and for tournament game, a game
-           that another process is playing needs no result
-        1  some game has no result, a side was unfit or abandoned, or nothing
-           can be written
+status: 0  each game has a result, and no side was unfit, abandoned or late; or
+           the test of --sprt is over. With --task, and for tournament game, a
+           game that another process is playing needs no result
+        1  some game has no result, a side was unfit, abandoned or late, or
+           nothing can be written
         2  usage error; nothing was played
         69  an engine can't be started on this machine
         130, 143  stopped by Ctrl-C; by TERM or HUP
         141  nobody reads what it prints
 """
 LOSSES = """\
-  --abandoned loses  an abandoned side loses: it crashed, broke the protocol or
-                     was late; this is the default. A game with an unfit side is
-                     out, that is in no pair: it refused the size, the komi or
-                     the handicap
+  --abandoned loses  an abandoned side loses: it crashed or broke the protocol
+                     more often than --restarts allows; this is the default. A
+                     game with an unfit side is out, that is in no pair: it
+                     refused the size, the komi or the handicap
   --abandoned out    a game with an abandoned or unfit side is out
   --abandoned half   such a game has no winner, and in a pair it is half a point
                      for each side, as with earlier versions
   --late half|out|loses
-                     the same for a side that was abandoned because it was late
-                     [as --abandoned says]
+                     the same for a late side, which gave no answer in time;
+                     twogtp has that abandoned, too [as --abandoned says]
 """
 HELP: dict[str | None, str] = {
     None: "\n".join([HEAD, PLAN + PLAY + MORE_OF_PLAY + DRY_RUN + OPTION, FILES, STATUS]),
@@ -241,7 +241,7 @@ difference in Elo is in the end.
             PLAN + PLAY + OPTION,
             """\
 status: 0  all engines played
-        1  a game has no result, or a side was unfit or abandoned
+        1  a game has no result, or a side was unfit, abandoned or late
         2  usage error; nothing was played
         69  an engine can't be started on this machine
         130, 143  stopped by Ctrl-C; by TERM or HUP
@@ -285,12 +285,12 @@ Writes the results of FOLDER in the plan's order, for other programs.
 
   --pgn              write each game in PGN, without moves, for rating programs.
                      White's result is first; 1/2-1/2 is a drawn game, and * is
-                     any other game that nobody won
+                     any other game without a winner
   --csv              write a table with a header, and a line for each game
   --jsonl            write a line of JSON for each game
   --sgf RECORDS      write an SGF file for each game, RECORDS/GAME.sgf, into a
                      new directory. The result 0 is a drawn game, and Void is
-                     any other game that nobody won
+                     any other game without a winner
 """
     + LOSSES
     + """
@@ -403,15 +403,17 @@ usage: tally FOLDER [--abandoned half|out|loses] [--late half|out|loses]
 
 Counts the results of a directory that tournament made. With three engines or
 more it rates them in Elo by maximum likelihood, from the mean of all, with 95 %
-intervals that follow from whole pairs.
+intervals that follow from whole pairs. Of each engine it says how often it was
+to blame, and its crashes: how many of its starts ended because it crashed or
+broke the protocol, those after which it was abandoned among them.
 
 """
     + LOSSES
     + """\
   --no-winner half   in a pair (the two games of two engines with one seed),
-                     count a game that nobody won and that isn't out as half a
+                     count a game without a winner that isn't out as half a
                      point; this is the default
-  --no-winner out    leave out pairs with a game that nobody won, unless that
+  --no-winner out    leave out pairs with a game without a winner, unless that
                      game is drawn
   --sprt ELO0 ELO1   test whether the plan's first engine is stronger than its
                      second by ELO0 or by ELO1 Elo, and say which of the two is

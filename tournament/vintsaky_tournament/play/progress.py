@@ -50,7 +50,7 @@ class Progress:
         minutes = (self.clock() - self.began) / 60
         rate = (count - self.before) / minutes if minutes > 0 else 0
         left = as_text((self.total - count) / rate) if rate else "unknown time"
-        lost = f", {self.lost} of them unfit or abandoned" if self.lost else ""
+        lost = f", {self.lost} of them unfit, abandoned or late" if self.lost else ""
         done = f"{count} of {self.total} games have a result{lost}, {self.failed} failed"
         return f"{done}; {rate:.1f} games a minute, {left} left"
 

@@ -15,6 +15,7 @@ from ..model import GameId, Outcome, Plan, Result, State
 from ..output import NoStart
 from ..store import results
 from ..store.layout import InTheWay, Places, Taken, clear_running, make_folders
+from ..store.notes import line_of
 from .game import no_result
 from .hooks import Hooks
 from .known import NO_START, KnownEngines
@@ -220,9 +221,10 @@ class Play:
             assert game is not None
             if result:
                 self.add_result(game, result)
-                self.print(f"{self.count} of {self.total}: {name}: {result.line}")
+                line = line_of(self.run.folder, name, result)
+                self.print(f"{self.count} of {self.total}: {name}: {line}")
                 if self.states[game] == State.LOST:
-                    self.hooks.add_failures({name: result.verdict})
+                    self.hooks.add_failures({name: line.partition(" moves ")[0]})
                 for engine in engines:
                     self.not_started[engine] = 0
                 continue
@@ -374,7 +376,7 @@ class Play:
         again = ""
         if lost:
             them = "these" if lost > 1 else "it"
-            again = f", {lost} of them unfit or abandoned: --again plays {them} again"
+            again = f", {lost} of them unfit, abandoned or late: --again plays {them} again"
         left = ""
         if self.share and missing:
             left = f"{';' if lost else ','} {missing} are missing"

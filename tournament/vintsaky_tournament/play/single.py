@@ -8,6 +8,7 @@ from ..model import GameId, Outcome, Plan, State
 from ..output import NoStart
 from ..store import results
 from ..store.layout import InTheWay, Taken
+from ..store.notes import line_of
 from .known import NO_START, KnownEngines
 from .run import Run
 
@@ -66,7 +67,8 @@ class One:
         if not result:
             return self.run.stop_status() if self.run.stopped else 1
         try:
-            output.write(output.STDOUT, f"{self.name}: {result.line}\n")
+            line = line_of(self.run.folder, self.name, result)
+            output.write(output.STDOUT, f"{self.name}: {line}\n")
         except OSError:
             output.report(f"{self.name}: it has a result, but this line was not written")
             return 1

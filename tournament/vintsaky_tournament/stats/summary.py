@@ -173,7 +173,7 @@ class PairingRow:
 
 
 class Blame(NamedTuple):
-    """How often an engine was to blame for an ending, or was restarted."""
+    """How often an engine was to blame for an ending, crashed, or was restarted."""
 
     engine: str
     cause: str
@@ -256,8 +256,12 @@ class Summary:
             for cause in (*of_twogtp, *of_server, *others):
                 if self.blamed[engine, cause]:
                     yield Blame(engine, cause, self.blamed[engine, cause])
-            if self.counts.restarts[engine]:
-                yield Blame(engine, "restarts", self.counts.restarts[engine])
+            restarts = self.counts.restarts[engine]
+            crashes = restarts + self.blamed[engine, Way.ABANDONED.value]
+            if crashes:  # each restart follows one, and behind the last one it is abandoned
+                yield Blame(engine, "crashes", crashes)
+            if restarts:
+                yield Blame(engine, "restarts", restarts)
 
 
 class WithoutResult(NamedTuple):
