@@ -160,6 +160,11 @@ USES: Dict[str, Tuple[str, Any]] = {
         'await open("1_a_b"); ["Home", "ArrowRight", "ArrowRight"].forEach(press); return said()',
         "2 of 6: White A1",
     ),
+    "keys of ten": (
+        'await open("1_a_b"); press("ArrowUp"); const up = said(); press("ArrowDown");'
+        ' return [byId("viewer").textContent.includes("↓ ten on, ↑ ten back"), up, said()]',
+        [True, "The empty board", "6 of 6: White pass. The end: B+R"],
+    ),
     "capture": (
         'await open("1_a_b", 5);'
         ' return [said(), byId("captured0").textContent, all("#board .stone").length]',
