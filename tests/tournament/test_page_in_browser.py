@@ -194,6 +194,12 @@ USES: Dict[str, Tuple[str, Any]] = {
         ' return all("#list tbody td a").map(link)',
         [["log", "logs/1_b_a"], ["notes", "notes/1_b_a"]],
     ),
+    # each game has a board, one has two files, and ten heads sort
+    "links look so": (
+        'const ways = it => getComputedStyle(it).textDecorationLine;'
+        ' return all("#list a, #list thead button").map(ways)',
+        ["underline"] * (3 + 2 + 10),
+    ),
     "next game": (
         'await open("1_a_b"); press("]"); const name = byId("viewer-name");'
         ' while (name.textContent.startsWith("a - b")) await pause(); return name.textContent',
