@@ -134,6 +134,28 @@ def test_numbers_are_those_of_the_tally(write: Write, rules: List[str], runner: 
         assert cell.startswith(f"{pair['won']}-{pair['lost']}" if pair["games"] else "")
 
 
+@pytest.mark.parametrize(
+    "words, said",
+    [
+        (
+            [],
+            "an abandoned game or a late game counts as lost by the engine that failed; a game"
+            " whose setup an engine refuses is left out, with its pair.",
+        ),
+        (
+            ["--abandoned", "half", "--late", "out"],
+            "an abandoned game or a game whose setup an engine refuses counts as half a point for"
+            " each engine; a late game is left out, with its pair.",
+        ),
+    ],
+)
+def test_what_failed_games_count_is_said_in_words(
+    words: List[str], said: str, runner: Runner
+) -> None:
+    write_pairs(runner.folder / "all", [WON] * 4)
+    assert f"Where a side failed, {said}" in page_of(runner, *words).texts["ranking"]
+
+
 def test_who_is_best_and_how_sure_that_is(runner: Runner) -> None:
     # the score is 0.5625, and by R its interval from 0.5095 to 0.6145: the middle of that is 0.562,
     # its standard error 0.105 / 2 / 1.96 = 0.0268, and a half is 2.314 of these below, which the

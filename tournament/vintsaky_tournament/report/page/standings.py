@@ -4,8 +4,9 @@ from __future__ import annotations
 from typing import Mapping, Sequence
 from urllib.parse import quote
 
-from ...model import SIDES, Side
+from ...model import SIDES, Side, Way
 from ...stats.breakdown import Part, by_colour
+from ...stats.endings import Rule, Rules
 from ...stats.pairs import Pairing
 from ...stats.summary import PairingRow, Row
 from ..text import line_of_best, line_of_test, percent, points, record, whole
@@ -17,6 +18,16 @@ from .view import Rated, View
 MOST_COURSES = 45  # pairs of engines whose score is drawn
 MANY = 12  # engines from which on a crosstable is narrow
 OUTCOMES = ("0", "0.5", "1", "1.5", "2")
+FAILED_GAMES = {
+    Way.ABANDONED: "an abandoned game",
+    Way.LATE: "a late game",
+    Way.UNFIT: "a game whose setup an engine refuses",
+}
+COUNTS_AS = {
+    Rule.LOSES: "counts as lost by the engine that failed",
+    Rule.HALF: "counts as half a point for each engine",
+    Rule.OUT: "is left out, with its pair",
+}
 
 
 def by_engine(engine: str, text: Child, other: str = "") -> Html:
@@ -98,8 +109,15 @@ def explained(view: View) -> str:
     if black:
         interval = to(whole(black.low), whole(black.high))
         parts.append(f"Black's advantage is {whole(black.elo)} Elo, {interval}.")
-    parts.append(f"What counts where a side failed: {view.counts.rules.text()}.")
+    parts.append(f"Where a side failed, {in_words(view.counts.rules)}.")
     return " ".join(parts)
+
+
+def in_words(rules: Rules) -> str:
+    """Returns what the games count in which a side failed."""
+    found = dict.fromkeys(rules.by_way().values())
+    named = {rule: " or ".join(FAILED_GAMES[way] for way in rules.ways(rule)) for rule in found}
+    return "; ".join(f"{games} {COUNTS_AS[rule]}" for rule, games in named.items())
 
 
 # ---- crosstable
