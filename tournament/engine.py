@@ -116,6 +116,8 @@ class Engine:
             if len(self.game.boards) == 1:
                 raise ValueError("cannot undo")
             self.game.boards.pop()
+        elif command == "komi":
+            float(words[0])  # the moves don't depend on it
         elif command == "known_command":
             return "true" if words[0] in COMMANDS else "false"
         elif command not in COMMANDS:

@@ -14,6 +14,7 @@ Lessons = Tuple[str, ...]
 # the lesson about a subject
 SUBJECTS: Dict[str, Lessons] = {
     "replies": ("start",),
+    "errors": ("errors",),
     "ids": ("start",),
     "lines": ("start",),
     "sizes": ("sizes",),
@@ -45,6 +46,13 @@ OTHERS: Dict[Lessons, Tuple[str, ...]] = {
     ("placed",): (
         # the stone of a move that was chosen is surrounded, and is captured or isn't
         "stone_by_turn no_colour_is_read first_stone_is_blacks",
+    ),
+    ("errors",): (
+        "no_reply_to_an_unknown_command unknown_is_a_failure unread_komi_is_zero",
+        # a size that is no number is refused, and clears the board
+        "refused_size_clears_the_board",
+        # the line that asks whether a command is known that no engine has
+        "lines_of_thirty_one",
     ),
     ("sizes",): (
         # ids of three digits: so many commands has one engine in this lesson
@@ -145,7 +153,6 @@ NOTICED = {
 }
 
 NOT_SENT = "no command is written in that form"
-NOT_ASKED = "this command isn't asked"
 KEPT_IN_PART = "an engine may keep only a part of the history, which undos in a row use up"
 WITHIN_A_UNIT = "its scores contradict each other by no more than one unit of their last digit"
 # bugs that the course doesn't notice, and why
@@ -154,10 +161,8 @@ UNNOTICED = {
     "komi_of_four_characters": WITHIN_A_UNIT,
     "empty_board_is_blacks": "a score of an empty board is an opinion",
     "score_has_six_digits": "a score may end with an exponent",
-    "no_reply_to_an_unknown_command": NOT_ASKED,
     "quit_has_no_reply": "the answer to `quit` isn't judged",
-    "known_is_yes": "any answer to `known_command` is right",
-    "unknown_is_a_failure": "any answer to `known_command` is right",
+    "known_is_yes": "any success of `known_command` is right",
     "letters_of_any_case": NOT_SENT,
     "id_of_zero_is_none": "ids begin with 1",
     "ids_are_its_own_count": "ids go up by one from 1, so that is right here",
@@ -169,7 +174,6 @@ UNNOTICED = {
     "control_characters_stay": NOT_SENT,
     "tab_is_no_space": NOT_SENT,
     "spaces_before_a_line": NOT_SENT,
-    "lines_of_thirty_one": "the longest line has 30 characters",
     "capital_colours_are_unread": NOT_SENT,
     "small_vertices_are_unread": NOT_SENT,
     "capital_pass_is_unread": NOT_SENT,
@@ -177,11 +181,9 @@ UNNOTICED = {
     "even_score_has_a_colour": "`B+0` is the number 0",
     "ids_are_floats": "ids stay below 16777217",
     "komi_is_a_single": "each komi that is sent is a float of 32 bits, as in the standard",
-    "unread_komi_is_zero": "each komi that is sent can be read",
     "lead_is_a_byte": "only scores of empty boards are asked",
     "quit_is_not_known": "the answer to `quit` isn't judged",
-    "known_by_its_beginning": "any answer to `known_command` is right",
-    "refused_size_clears_the_board": "it takes each size that is asked",
+    "known_by_its_beginning": "any success of `known_command` is right",
     "two_passes_end_the_choice": "no `genmove` is asked after two passes",
     "moves_taken_back_fill_a_list": KEPT_IN_PART,
     "undo_once": KEPT_IN_PART,
@@ -203,6 +205,8 @@ WAITING = {
 # depth of the stack. Pasted into another process, their conversation may be answered otherwise.
 NOT_PASTED = {
     *WAITING,
+    # what is shown is the reply to a command that was sent ahead
+    "no_reply_to_an_unknown_command",
     *("reads_of_sixty_four", "id_of_the_last_line_of_a_read", "last_line_of_a_read_is_first"),
     *("trial_is_over", "note_after_a_crash", "eleventh_start_fails"),
     *("old_game_is_a_book", "old_game_comes_back", "old_board_comes_back_at_undo"),

@@ -27,7 +27,7 @@ PUT_IT_IN_QUOTES = "An engine's command is one argument: put it in quotes\n"
         ),
         pytest.param(
             ["--only", "kos", ENGINE],
-            ["'kos'", "--only", "start, placed, sizes, ko"],
+            ["'kos'", "--only", "start, placed, errors, sizes"],
             id="a lesson that there is not",
         ),
         pytest.param(

@@ -183,28 +183,30 @@ def test_hostile_engine(engine: Hostile, checker: Checker, tmp_path: Path) -> No
 
 def test_engine_that_refuses_everything(checker: Checker, tmp_path: Path) -> None:
     # It may refuse each size, so no move is asked, but not `list_commands`, which is asked in the
-    # last part of the lesson `start`. The part in pieces, the second, has a start of its own. The
+    # last part of the lesson `start`, nor `protocol_version`, which comes in the first of `errors`
+    # in place of the size that is asked for again, and three more commands are sent ahead with it.
+    # Each of these two is followed by a start, and the part in pieces has one of its own. The
     # commands are five of each start, one for each part of a lesson, and in those that look for the
     # size of scenes 21 more.
     parts = {
-        **{"start": 4, "placed": 1, "sizes": 25, "ko": 6 * 16, "captures": 8 * 16},
-        **{"suicide": 5 * 16, "joining": 4 * 16, "handicaps": 25 * 12, "komi": 16},
-        **{"drawn": 11, "record": 3, "genmoves": 9, "games": 5, "restarts": 5},
+        **{"start": 4, "placed": 1, "errors": 4, "sizes": 25, "ko": 6 * 16},
+        **{"captures": 8 * 16, "suicide": 5 * 16, "joining": 4 * 16, "handicaps": 25 * 12},
+        **{"komi": 16, "drawn": 11, "record": 3, "genmoves": 9, "games": 5, "restarts": 5},
     }
     one_size = ("sizes", "handicaps")
-    commands = 3 * 5 + sum(
+    commands = 4 * 5 + 3 + sum(
         count if lesson in one_size else 22 * count for lesson, count in parts.items()
     )
     check = checker.check(ENGINES["refuses"].command(tmp_path), "--trials", "0")
     assert (check.status, check.errors) == (1, "")
     complaints = [(complaint.command, complaint.fault) for complaint in check.report.complaints]
-    assert complaints == [("50 list_commands", REFUSED)]
+    assert complaints == [("50 list_commands", REFUSED), ("49 protocol_version", REFUSED)]
     unasked = "no play and no genmove was answered rightly on any board of it"
     assert list(check.report.notes) == [
         *(f"{lesson}: {unasked}" for lesson in parts),
         f"it refuses the sizes {' '.join(map(str, [*range(5, 26), *range(1, 5)]))}",
     ]
-    assert (check.report.commands, check.report.starts) == (commands, 3)
+    assert (check.report.commands, check.report.starts) == (commands, 4)
 
 
 def test_silent_engine_is_waited_for(checker: Checker, tmp_path: Path) -> None:
@@ -232,8 +234,8 @@ check: an engine without a name, version unknown, seed 1, simple ko
 # it wrote: ""
 # right: an engine answers each command, and reads on until quit
 
-check: not asked, as the options say: start placed sizes ko captures suicide joining handicaps \
-drawn record genmoves games restarts
+check: not asked, as the options say: start placed errors sizes ko captures suicide joining \
+handicaps drawn record genmoves games restarts
 check: the engine was not started: no such file: "{str(once)[:80]}"
 check: not asked, or not to their end, for that: komi
 check: 1 command, 1 start, 1 complaint

@@ -12,8 +12,8 @@ SIZES = " ".join(map(str, range(5, 26)))
 # 25, and 5 again.
 NOTHING_FOUND = f"""\
 check: "", version "", seed 1, simple ko
-check: not asked, as the options say: start placed sizes ko captures suicide joining handicaps \
-komi drawn genmoves games restarts
+check: not asked, as the options say: start placed errors sizes ko captures suicide joining \
+handicaps komi drawn genmoves games restarts
 check: record: no play and no genmove was answered rightly on any board of it
 check: it refuses the sizes {SIZES}
 check: 71 commands, 1 start, 0 complaints
@@ -32,8 +32,8 @@ COMPLAINTS = "".join(
 FOUND = f"""\
 check: an engine without a name, version unknown, seed 1, simple ko
 {COMPLAINTS}\
-check: not asked, as the options say: start placed sizes ko captures suicide joining handicaps \
-drawn record genmoves games restarts
+check: not asked, as the options say: start placed errors sizes ko captures suicide joining \
+handicaps drawn record genmoves games restarts
 check: komi: no play and no genmove was answered rightly on any board of it
 check: 3 commands, 3 starts, 3 complaints
 """

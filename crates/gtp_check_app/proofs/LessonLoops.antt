@@ -30,6 +30,6 @@ AreKept-more test number d before after is_kept inside so_far is more longer =
 
 -- all were looked at
 pub AreKept-all : (test : Lesson → Bool) (number : ℕ) (kept : ArrayVec Lesson) → AreKept test number kept
-    → number ≡ 14 → kept.items ≡ filter test all_lessons
+    → number ≡ 15 → kept.items ≡ filter test all_lessons
 AreKept-all test number kept are whole =
     are.kept ∙ ap (λ (n : ℕ). filter test (take n all_lessons)) whole

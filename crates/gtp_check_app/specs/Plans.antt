@@ -7,7 +7,7 @@ use Rattle.clap.specs.Words.{Text}
 use Rattle.go_base.specs.Size.{IsSize}
 use Rattle.gtp_check_course.specs.Lessons.{all_lessons, number_of}
 use Rattle.gtp_check_course.specs.declared.lessons.Lesson.{Lesson}
-use Rattle.gtp_check_course.specs.declared.lessons.Lesson.TheVariants.{Start, Placed, Sizes, Ko, Captures, Suicide, Joining}
+use Rattle.gtp_check_course.specs.declared.lessons.Lesson.TheVariants.{Start, Placed, Errors, Sizes, Ko, Captures, Suicide, Joining}
 use Rattle.gtp_check_course.specs.declared.lessons.Lesson.TheVariants.{Handicaps, Komi, Drawn, Record, Genmoves}
 use Rattle.gtp_check_course.specs.declared.lessons.Lesson.TheVariants.{Games}
 use Rattle.gtp_check_course.specs.declared.lessons.Lesson.TheVariants.{Restarts}
@@ -35,6 +35,7 @@ pub record IsSceneSize (number : ℕ) (size : Option ℕ) : Type 0 where
 abbrev pub is_quick : Lesson → Bool
 is_quick Start = true
 is_quick Placed = true
+is_quick Errors = true
 is_quick Sizes = true
 is_quick Ko = true
 is_quick Captures = true

@@ -44,7 +44,7 @@ nothing_found starts_left = record {
   complaints = 0;
   lesson = None;
   faults = record { items = [] };
-  hidden = replicate 14 0;
+  hidden = replicate 15 0;
   starts_left = starts_left;
   is_after_fault = false;
   has_first_line = false;

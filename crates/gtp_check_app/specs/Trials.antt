@@ -8,6 +8,7 @@ use Rattle.gtp_check_judge.specs.declared.asking.CheckCommand.{CheckCommand}
 use Rattle.gtp_check_judge.specs.declared.asking.CheckCommand.TheVariants.{Match, FinalScore, Name, Version}
 use Rattle.gtp_check_judge.specs.declared.asking.CheckCommand.TheVariants.{KnownCommand, PlayInFull, GenmoveInFull}
 use Rattle.gtp_check_judge.specs.declared.asking.CheckCommand.TheVariants.{ListCommands}
+use Rattle.gtp_check_judge.specs.declared.asking.CheckCommand.TheVariants.{Faulty, Required}
 use Rattle.gtp_check_texts.specs.reasons.RunOn.{runs_on}
 use Rattle.gtp_check_course.specs.declared.plan.Plan.{Plan}
 use Rattle.gtp_check_shortening.specs.declared.flat.Shortening.{Shortening}
@@ -80,6 +81,8 @@ may_wait Name = false
 may_wait Version = false
 may_wait (KnownCommand known) = false
 may_wait ListCommands = false
+may_wait (Faulty faulty) = false
+may_wait (Required required) = false
 may_wait (PlayInFull move) = false
 may_wait (GenmoveInFull colour) = true
 

@@ -53,7 +53,7 @@ pub struct Options<'a> {
     pub suicide: Suicide,
     /// The random seed; 1 by default.
     pub seed: u32,
-    /// Whether only the first seven lessons are run.
+    /// Whether only the first eight lessons are run.
     pub quick: bool,
     /// The only lessons to run; if there are none, all are run.
     pub only: Lessons,
@@ -96,7 +96,7 @@ static OPTIONS: [OptionRow<'static>; 11] = [
     OptionRow {
         name: "quick",
         takes: Takes::Nothing,
-        help: "Run only the first seven lessons",
+        help: "Run only the first eight lessons",
     },
     OptionRow {
         name: "only",
@@ -224,7 +224,7 @@ fn contains(texts: &[&str], wanted: &str) -> bool
 
 /// Appends a lesson if `is_so`.
 pub fn add_if(lessons: &mut Lessons, lesson: Lesson, is_so: bool)
-    requires { array_vec_len lessons.old < 14 }
+    requires { array_vec_len lessons.old < 15 }
     ensures items { lessons.new.items
         ≡ lessons.old.items ++ (if is_so then lesson ∷ [] else []) }
     ensures few { array_vec_len lessons.new ≤ array_vec_len lessons.old + 1 }

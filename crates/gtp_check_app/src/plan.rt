@@ -86,13 +86,14 @@ fn is_chosen(options: &Options<'_>, lesson: Lesson) -> bool
         && (!options.quick || is_quick(lesson))
 }
 
-/// Whether `--quick` keeps a lesson: one of the first seven.
+/// Whether `--quick` keeps a lesson: one of the first eight.
 fn is_quick(lesson: Lesson) -> bool
     ensures { result ≡ is_quick lesson }
 {
     match lesson {
         Lesson::Start
         | Lesson::Placed
+        | Lesson::Errors
         | Lesson::Sizes
         | Lesson::Ko
         | Lesson::Captures

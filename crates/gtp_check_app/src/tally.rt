@@ -11,7 +11,7 @@ use gtp_check_talk::Fault;
 const MOST_SHOWN_ALIKE: usize = 3;
 
 /// How many lessons there are.
-const ALL: usize = 14;
+const ALL: usize = 15;
 
 /// How many faults of one lesson are known at most. A lesson is over before it has so many.
 const MOST_KNOWN: usize = 32;

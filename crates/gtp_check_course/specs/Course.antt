@@ -53,7 +53,7 @@ begun lessons scene_size seed suicide = record {
 pub record IsIn (lessons : List Lesson) (now : Place) : Type 0 where
   pub place : IsPlace now
   pub lesson : now.lesson ≤ length lessons
-  pub few : length lessons ≤ 14
+  pub few : length lessons ≤ 15
 
 abbrev pub IsOver : Course → Type 0
 IsOver course = length course.lessons ≤ course.place.lesson

@@ -2,10 +2,11 @@
 -- in chunks. How a user names them.
 use Rattle.std.specs.Prelude.{ℕ, ◌==◌, Bool, false, if◌then◌else◌, List, [], map, slice_get, unwrap_or}
 use Rattle.gtp_check_course.specs.declared.lessons.Lesson.{Lesson}
-use Rattle.gtp_check_course.specs.declared.lessons.Lesson.TheVariants.{Start, Placed, Sizes, Ko, Captures, Suicide, Joining}
+use Rattle.gtp_check_course.specs.declared.lessons.Lesson.TheVariants.{Start, Placed, Errors, Sizes, Ko, Captures, Suicide, Joining}
 use Rattle.gtp_check_course.specs.declared.lessons.Lesson.TheVariants.{Handicaps, Komi, Drawn, Record, Genmoves}
 use Rattle.gtp_check_course.specs.declared.lessons.Lesson.TheVariants.{Games, Restarts}
 use Rattle.gtp_check_course.specs.declared.stretches.Stretch.{Stretch}
+use Rattle.gtp_check_course.specs.declared.errors.TheConstants.{REQUIRED, UNKNOWN, NO_NUMBERS, NO_MOVES}
 use Rattle.gtp_check_course.specs.declared.games.TheConstants.{RECORD, GENMOVES, GAMES, RESTARTS}
 use Rattle.gtp_check_course.specs.declared.lessons.TheConstants.{LESSON_NAMES, LESSONS}
 use Rattle.gtp_check_course.specs.declared.tables.TheConstants.{SCENE, KO, REFUSED, START, PIECES, IN_FULL, LIST, SIZES}
@@ -19,28 +20,30 @@ all_lessons = LESSONS
 abbrev pub number_of : Lesson → ℕ
 number_of Start = 0
 number_of Placed = 1
-number_of Sizes = 2
-number_of Ko = 3
-number_of Captures = 4
-number_of Suicide = 5
-number_of Joining = 6
-number_of Handicaps = 7
-number_of Komi = 8
-number_of Drawn = 9
-number_of Record = 10
-number_of Genmoves = 11
-number_of Games = 12
-number_of Restarts = 13
+number_of Errors = 2
+number_of Sizes = 3
+number_of Ko = 4
+number_of Captures = 5
+number_of Suicide = 6
+number_of Joining = 7
+number_of Handicaps = 8
+number_of Komi = 9
+number_of Drawn = 10
+number_of Record = 11
+number_of Genmoves = 12
+number_of Games = 13
+number_of Restarts = 14
 
 -- the name of a lesson
 abbrev pub name_of : Lesson → List ℕ
 name_of lesson = unwrap_or (slice_get (map (λ name. name.now) LESSON_NAMES) (number_of lesson)) []
 
--- the parts: four of the start, the second in chunks; one; each size; each scene in its sixteen ways; each size with each
+-- the parts: four of the start, the second in chunks; one; four; each size; each scene in its sixteen ways; each size with each
 -- number of handicap stones up to 11; and so on
 abbrev pub parts_of : Lesson → ℕ
 parts_of Start = 4
 parts_of Placed = 1
+parts_of Errors = 4
 parts_of Sizes = 25
 parts_of Ko = 96
 parts_of Captures = 128
@@ -62,10 +65,19 @@ start_parts part =
     else if part == 3 then LIST
     else START
 
+-- the stretches of a part about errors
+abbrev pub errors_parts : ℕ → List Stretch
+errors_parts part =
+    if part == 1 then UNKNOWN
+    else if part == 2 then NO_NUMBERS
+    else if part == 3 then NO_MOVES
+    else REQUIRED
+
 -- the stretches of a part, one after the other
 abbrev pub stretches_of : Lesson → ℕ → List Stretch
 stretches_of Start part = start_parts part
 stretches_of Placed part = PLACED
+stretches_of Errors part = errors_parts part
 stretches_of Sizes part = SIZES
 stretches_of Ko part = KO
 stretches_of Captures part = SCENE

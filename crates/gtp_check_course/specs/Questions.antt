@@ -15,7 +15,7 @@ use Rattle.go_board.specs.Game.{GameRecord, IsLegal}
 use Rattle.gtp_wire.specs.declared.commands.Command.{Command}
 use Rattle.gtp_wire.specs.declared.commands.Command.TheVariants as command
 use Rattle.gtp_check_judge.specs.declared.asking.CheckCommand.TheVariants.{Match, FinalScore, ListCommands}
-use Rattle.gtp_check_judge.specs.declared.asking.CheckCommand.TheVariants.{PlayInFull, GenmoveInFull}
+use Rattle.gtp_check_judge.specs.declared.asking.CheckCommand.TheVariants.{PlayInFull, GenmoveInFull, Faulty, Required}
 use Rattle.gtp_check_course.specs.declared.actions.Question.{Question}
 use Rattle.gtp_check_course.specs.declared.actions.Question.TheVariants.{Ask, Probe, Size, Found, Restart, Kill}
 use Rattle.gtp_check_course.specs.declared.actions.Question.TheVariants.{Nothing}
@@ -388,5 +388,7 @@ IsQuestion (stretch.AroundMove number) step board game question =
     question ≡ around_asked step.number (slice_get game.moves number)
 IsQuestion (stretch.ChosenInFull colour) step board game question = question ≡ choice_in_full board colour
 IsQuestion stretch.List step board game question = question ≡ Ask ListCommands
+IsQuestion (stretch.Faulty command) step board game question = question ≡ Ask (Faulty command)
+IsQuestion (stretch.Required command) step board game question = question ≡ Ask (Required command)
 IsQuestion stretch.Restart step board game question = question ≡ Restart
 IsQuestion stretch.Kill step board game question = question ≡ Kill

@@ -114,6 +114,7 @@ fn lines_of(lesson: Lesson, part: u32, scene_size: Size) -> u32
     match lesson {
         Lesson::Start
         | Lesson::Placed
+        | Lesson::Errors
         | Lesson::Ko
         | Lesson::Captures
         | Lesson::Suicide

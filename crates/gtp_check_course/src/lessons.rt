@@ -2,16 +2,16 @@
 ghost use Rattle.std.specs.Prelude.{◌≡◌, ◌≤◌, length, map};
 ghost use Rattle.gtp_check_course.specs.Places.{most_parts, most_stretches};
 ghost use Rattle.gtp_check_course.specs.Lessons.{is_in_pieces, name_of, number_of, parts_of};
-ghost use Rattle.gtp_check_course.specs.Lessons.{start_parts, stretches_of};
+ghost use Rattle.gtp_check_course.specs.Lessons.{errors_parts, start_parts, stretches_of};
 ghost use Rattle.gtp_check_course.specs.Scenes.{scenes_of};
 
 use crate::scenes::{CAPTURES, JOINING, KO, SUICIDE, Scene, WAYS};
 use crate::stretches::Stretch;
-use crate::{games, tables};
+use crate::{errors, games, tables};
 use arrayvec::ArrayVec;
 
 /// How many lessons there are.
-const ALL: usize = 14;
+const ALL: usize = 15;
 
 /// The lessons of a course, in their order.
 pub type Lessons = ArrayVec<Lesson, ALL>;
@@ -26,6 +26,8 @@ pub enum Lesson {
     /// The stones of the engine's own moves: whether each is on its point, and whose it is. For that the other colour
     /// surrounds it, which captures it if it has the colour that was asked for.
     Placed,
+    /// What no engine can read, which has to fail and to change nothing, and commands that never fail.
+    Errors,
     /// Each size from 1 to 25: whether the engine accepts it, each of its points, and two points that it doesn't have.
     /// Then the capture of all stones of a full board, which is undone with the moves before it, on some sizes with all
     /// of them.
@@ -71,6 +73,7 @@ impl Default for Lesson {
 pub const LESSONS: [Lesson; ALL] = [
     Lesson::Start,
     Lesson::Placed,
+    Lesson::Errors,
     Lesson::Sizes,
     Lesson::Ko,
     Lesson::Captures,
@@ -89,6 +92,7 @@ pub const LESSONS: [Lesson; ALL] = [
 pub const LESSON_NAMES: [&str; ALL] = [
     "start",
     "placed",
+    "errors",
     "sizes",
     "ko",
     "captures",
@@ -114,7 +118,7 @@ impl Lesson {
     /// Returns its number among all lessons, counted from 0.
     pub fn number(self) -> usize
         ensures number { result ≡ number_of self }
-        ensures few { result ≤ 13 }
+        ensures few { result ≤ 14 }
     {
         self as usize
     }
@@ -127,6 +131,7 @@ impl Lesson {
         match self {
             Lesson::Start => 4,
             Lesson::Placed => 1,
+            Lesson::Errors => 4,
             Lesson::Sizes => 25,
             Lesson::Ko => 6 * WAYS,
             Lesson::Captures => 8 * WAYS,
@@ -160,6 +165,7 @@ impl Lesson {
         match self {
             Lesson::Start => start_parts(part),
             Lesson::Placed => &tables::PLACED,
+            Lesson::Errors => errors_parts(part),
             Lesson::Sizes => &tables::SIZES,
             Lesson::Ko => &tables::KO,
             Lesson::Captures | Lesson::Joining => &tables::SCENE,
@@ -197,5 +203,18 @@ fn start_parts(part: u32) -> &'static [Stretch]
         2 => &tables::IN_FULL,
         3 => &tables::LIST,
         _ => &tables::START,
+    }
+}
+
+/// Returns what this part of the lesson about errors asks.
+fn errors_parts(part: u32) -> &'static [Stretch]
+    ensures stretches { result.now ≡ errors_parts part }
+    ensures few { length result.now ≤ most_stretches }
+{
+    match part {
+        1 => &errors::UNKNOWN,
+        2 => &errors::NO_NUMBERS,
+        3 => &errors::NO_MOVES,
+        _ => &errors::REQUIRED,
     }
 }

@@ -10,6 +10,7 @@ mod beside;
 pub mod boards;
 mod course;
 pub mod draws;
+mod errors;
 mod games;
 mod kos;
 pub mod laws;

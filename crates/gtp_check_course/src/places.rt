@@ -37,7 +37,7 @@ impl Place {
     /// Returns the number of the place in the order of the course.
     pub fn number(self) -> u32
         requires place { IsPlace self }
-        requires lesson { self.lesson ≤ 14 }
+        requires lesson { self.lesson ≤ 15 }
         ensures { result ≡ number self }
     {
         67_200_000 * self.lesson as u32
@@ -112,7 +112,7 @@ impl Place {
     /// Returns the first step of the next lesson.
     pub fn next_lesson(self) -> Place
         requires place { IsPlace self }
-        requires room { self.lesson + 1 ≤ 14 }
+        requires room { self.lesson + 1 ≤ 15 }
         ensures exact { result ≡ next_lesson self }
         ensures place { IsPlace result }
         ensures later { number self < number result }

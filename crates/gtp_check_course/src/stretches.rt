@@ -20,7 +20,7 @@ use crate::sweeps::{all_back, emptied, points, waits};
 use arrayvec::ArrayVec;
 use go_base::{Colour, Move, Point, Size, Vertex, handicap};
 use go_board::Game;
-use gtp_check_judge::CheckCommand;
+use gtp_check_judge::{CheckCommand, FaultyCommand, RequiredCommand};
 use gtp_wire::Command;
 
 /// The number of the move whose stone is captured in the first scene of kos.
@@ -127,6 +127,10 @@ pub enum Stretch {
     /// `list_commands`. (The standard's topic list_commands: it lists all known commands, one a row, and each engine
     /// has eleven of them. The tournament doesn't ask it, so a bug can't spoil a match.)
     List,
+    /// A command that has to fail.
+    Faulty(FaultyCommand),
+    /// A command that may not fail.
+    Required(RequiredCommand),
     /// Moves of the colour that acts, which fill the board beside a ko, so that hardly a point is legal for the other
     /// colour.
     Sealed,
@@ -165,6 +169,8 @@ impl Stretch {
             | Stretch::Chosen(_)
             | Stretch::ChosenInFull(_)
             | Stretch::List
+            | Stretch::Faulty(_)
+            | Stretch::Required(_)
             | Stretch::Answer
             | Stretch::Restart
             | Stretch::Kill => 1,
@@ -216,6 +222,8 @@ impl Stretch {
             Stretch::OnMove(number) => on_move(step, game.moves().get(number).copied()),
             Stretch::AroundMove(number) => around_move(step, game.moves().get(number).copied()),
             Stretch::List => Question::Ask(CheckCommand::ListCommands),
+            Stretch::Faulty(command) => Question::Ask(CheckCommand::Faulty(command)),
+            Stretch::Required(command) => Question::Ask(CheckCommand::Required(command)),
             Stretch::Moves => play_act(act_of(step as usize, board), board),
             Stretch::MovesInFull => play_in_full(act_of(step as usize, board), board),
             Stretch::Act => play_act(last_of(board), board),

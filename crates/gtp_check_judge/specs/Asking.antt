@@ -17,6 +17,11 @@ use Rattle.gtp_check_judge.specs.declared.asking.Known.TheVariants as known
 use Rattle.gtp_check_judge.specs.declared.asking.CheckCommand.{CheckCommand}
 use Rattle.gtp_check_judge.specs.declared.asking.CheckCommand.TheVariants.{Match, FinalScore, Name, Version}
 use Rattle.gtp_check_judge.specs.declared.asking.CheckCommand.TheVariants.{KnownCommand, PlayInFull, GenmoveInFull, ListCommands}
+use Rattle.gtp_check_judge.specs.declared.asking.CheckCommand.TheVariants.{Faulty, Required}
+use Rattle.gtp_check_judge.specs.declared.asking.FaultyCommand.{FaultyCommand}
+use Rattle.gtp_check_judge.specs.declared.asking.FaultyCommand.TheVariants as faulty
+use Rattle.gtp_check_judge.specs.declared.asking.RequiredCommand.{RequiredCommand}
+use Rattle.gtp_check_judge.specs.declared.asking.RequiredCommand.TheVariants as required
 
 abbrev pub known_name : Known → List ℕ
 known_name known.FixedHandicap = codes "fixed_handicap"
@@ -28,6 +33,28 @@ abbrev pub colour_in_full : Colour → List ℕ
 colour_in_full Black = codes "black"
 colour_in_full White = codes "white"
 
+-- the name of a command that no engine has
+abbrev pub no_command : List ℕ
+no_command = codes "vintsaky-no-such-command"
+
+-- Commands that have to fail: of the standard's topics, boardsize takes an int, komi a float, play a colour and a vertex,
+-- and genmove a colour. A vertex has a letter and a number up to 25.
+abbrev pub faulty_words : FaultyCommand → List (List ℕ)
+faulty_words faulty.Unknown = no_command ∷ []
+faulty_words faulty.UnknownWithArguments = no_command ∷ codes "b" ∷ codes "D4" ∷ []
+faulty_words faulty.Boardsize = codes "boardsize" ∷ codes "x" ∷ []
+faulty_words faulty.Komi = codes "komi" ∷ codes "x" ∷ []
+faulty_words faulty.PlayNowhere = codes "play" ∷ codes "b" ∷ []
+faulty_words faulty.PlayOutside = codes "play" ∷ codes "b" ∷ codes "Z99" ∷ []
+faulty_words faulty.Genmove = codes "genmove" ∷ codes "x" ∷ []
+
+-- commands that every engine has, and that never fail
+abbrev pub required_words : RequiredCommand → List (List ℕ)
+required_words required.ProtocolVersion = codes "protocol_version" ∷ []
+required_words required.Name = codes "name" ∷ []
+required_words required.Version = codes "version" ∷ []
+required_words required.KnownCommand = codes "known_command" ∷ no_command ∷ []
+
 -- the words of a command
 abbrev pub words_of_check : CheckCommand → List (List ℕ)
 words_of_check (Match command) = words_of command
@@ -36,6 +63,8 @@ words_of_check Name = codes "name" ∷ []
 words_of_check Version = codes "version" ∷ []
 words_of_check (KnownCommand known) = codes "known_command" ∷ known_name known ∷ []
 words_of_check ListCommands = codes "list_commands" ∷ []
+words_of_check (Faulty command) = faulty_words command
+words_of_check (Required command) = required_words command
 words_of_check (PlayInFull move) =
     codes "play" ∷ colour_in_full move.colour ∷ written_vertex move.vertex ∷ []
 words_of_check (GenmoveInFull colour) = codes "genmove" ∷ colour_in_full colour ∷ []

@@ -18,10 +18,11 @@ use Rattle.gtp_session.specs.CommandAnswers.{after_command}
 use Rattle.gtp_check_judge.specs.declared.asking.CheckCommand.{CheckCommand}
 use Rattle.gtp_check_judge.specs.declared.asking.CheckCommand.TheVariants.{Match, FinalScore, Name, Version}
 use Rattle.gtp_check_judge.specs.declared.asking.CheckCommand.TheVariants.{KnownCommand, PlayInFull, GenmoveInFull, ListCommands}
+use Rattle.gtp_check_judge.specs.declared.asking.CheckCommand.TheVariants.{Faulty, Required}
 use Rattle.gtp_check_judge.specs.declared.dues.Due.{Due}
 use Rattle.gtp_check_judge.specs.declared.dues.Due.TheVariants.{Succeeds, Fails, Places, Resizes, Scores, AnyReply}
 use Rattle.gtp_check_judge.specs.declared.dues.Due.TheVariants.{Chooses, MayUndo, Lists}
-use Rattle.gtp_check_judge.specs.declared.dues.Cause.TheVariants.{BadMove, BadHandicap, NoMoves}
+use Rattle.gtp_check_judge.specs.declared.dues.Cause.TheVariants.{BadMove, BadHandicap, NoMoves, BadCommand}
 use Rattle.gtp_check_judge.specs.Komis.{is_exact_komi}
 use Rattle.gtp_check_judge.specs.RightEngine.{RightEngine, none_made}
 
@@ -68,6 +69,8 @@ MayBeAsked game Name = Unit {0}
 MayBeAsked game Version = Unit {0}
 MayBeAsked game (KnownCommand known) = Unit {0}
 MayBeAsked game ListCommands = Unit {0}
+MayBeAsked game (Faulty command) = Unit {0}
+MayBeAsked game (Required command) = Unit {0}
 MayBeAsked game (PlayInFull move) = MayBeSaid game (Play move)
 MayBeAsked game (GenmoveInFull colour) = MayBeSaid game (Genmove colour)
 
@@ -79,6 +82,7 @@ HandicapDue game stones (Places size count) =
 HandicapDue game stones (Fails (BadHandicap fault)) = RefusesHandicap game stones fault
 HandicapDue game stones (Fails (BadMove fault)) = ⊥
 HandicapDue game stones (Fails NoMoves) = ⊥
+HandicapDue game stones (Fails (BadCommand command)) = ⊥
 HandicapDue game stones Succeeds = ⊥
 HandicapDue game stones (Resizes size) = ⊥
 HandicapDue game stones (Scores size komi) = ⊥
@@ -93,6 +97,7 @@ PlayDue game move Succeeds = IsLegal game move.colour move.vertex × HasRoom gam
 PlayDue game move (Fails (BadMove fault)) = Refuses game move.colour move.vertex fault
 PlayDue game move (Fails (BadHandicap fault)) = ⊥
 PlayDue game move (Fails NoMoves) = ⊥
+PlayDue game move (Fails (BadCommand command)) = ⊥
 PlayDue game move (Places size count) = ⊥
 PlayDue game move (Resizes size) = ⊥
 PlayDue game move (Scores size komi) = ⊥
@@ -109,6 +114,7 @@ UndoDue engine Succeeds = (engine.undone ≡ false) × (0 < length engine.game.m
 UndoDue engine MayUndo = (engine.undone ≡ true) × (0 < length engine.game.moves)
 UndoDue engine (Fails (BadMove fault)) = ⊥
 UndoDue engine (Fails (BadHandicap fault)) = ⊥
+UndoDue engine (Fails (BadCommand command)) = ⊥
 UndoDue engine (Places size count) = ⊥
 UndoDue engine (Resizes size) = ⊥
 UndoDue engine (Scores size komi) = ⊥
@@ -133,7 +139,8 @@ IsDueTo engine Quit due = ⊥
 
 -- What is due to a command. To a `final_score` a score of the board, on which no stone is, with this komi, or a
 -- failure; to `name`, `version` and `known_command` a reply, be it a success or a failure, and whatever it says; to
--- `list_commands` a list. A colour may be written in one letter or in full, and what is due is the same.
+-- `list_commands` a list. A colour may be written in one letter or in full, and what is due is the same. What no engine
+-- can read has to fail, and what every engine has may not.
 abbrev pub IsDue : RightEngine → CheckCommand → Due → Type 0
 IsDue engine (Match command) due = IsDueTo engine command due
 IsDue engine FinalScore due =
@@ -142,6 +149,8 @@ IsDue engine Name due = due ≡ AnyReply
 IsDue engine Version due = due ≡ AnyReply
 IsDue engine (KnownCommand known) due = due ≡ AnyReply
 IsDue engine ListCommands due = due ≡ Lists
+IsDue engine (Faulty command) due = due ≡ Fails (BadCommand command)
+IsDue engine (Required command) due = due ≡ Succeeds
 IsDue engine (PlayInFull move) due = IsDueTo engine (Play move) due
 IsDue engine (GenmoveInFull colour) due = IsDueTo engine (Genmove colour) due
 
@@ -153,6 +162,8 @@ after_check game Name = game
 after_check game Version = game
 after_check game (KnownCommand known) = game
 after_check game ListCommands = game
+after_check game (Faulty command) = game
+after_check game (Required command) = game
 after_check game (PlayInFull move) = after_command game (Play move)
 after_check game (GenmoveInFull colour) = after_command game (Genmove colour)
 
@@ -185,6 +196,8 @@ undone_once undone Name = undone
 undone_once undone Version = undone
 undone_once undone (KnownCommand known) = undone
 undone_once undone ListCommands = undone
+undone_once undone (Faulty command) = undone
+undone_once undone (Required command) = undone
 undone_once undone (PlayInFull move) = false
 undone_once undone (GenmoveInFull colour) = undone
 

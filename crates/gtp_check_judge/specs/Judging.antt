@@ -17,6 +17,7 @@ use Rattle.gtp_wire.specs.Words.{reply_words}
 use Rattle.gtp_check_judge.specs.declared.asking.CheckCommand.{CheckCommand}
 use Rattle.gtp_check_judge.specs.declared.asking.CheckCommand.TheVariants.{Match, FinalScore, Name, Version}
 use Rattle.gtp_check_judge.specs.declared.asking.CheckCommand.TheVariants.{KnownCommand, PlayInFull, GenmoveInFull, ListCommands}
+use Rattle.gtp_check_judge.specs.declared.asking.CheckCommand.TheVariants.{Faulty, Required}
 use Rattle.gtp_check_judge.specs.declared.dues.Due.{Due}
 use Rattle.gtp_check_judge.specs.declared.dues.Due.TheVariants.{Succeeds, Fails, Places, Resizes, Scores, AnyReply}
 use Rattle.gtp_check_judge.specs.declared.dues.Due.TheVariants.{Chooses, MayUndo, Lists}
@@ -92,6 +93,8 @@ is_awaited engine Name = false
 is_awaited engine Version = false
 is_awaited engine (KnownCommand known) = false
 is_awaited engine ListCommands = false
+is_awaited engine (Faulty command) = false
+is_awaited engine (Required command) = false
 is_awaited engine (PlayInFull move) = leaves_open engine (command.Play move)
 is_awaited engine (GenmoveInFull colour) = leaves_open engine (command.Genmove colour)
 

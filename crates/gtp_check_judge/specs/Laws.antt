@@ -11,6 +11,7 @@ use Rattle.gtp_wire.specs.declared.commands.Command.{Command}
 use Rattle.gtp_check_judge.specs.declared.asking.CheckCommand.{CheckCommand}
 use Rattle.gtp_check_judge.specs.declared.asking.CheckCommand.TheVariants.{Match, FinalScore, Name, Version}
 use Rattle.gtp_check_judge.specs.declared.asking.CheckCommand.TheVariants.{KnownCommand, PlayInFull, GenmoveInFull, ListCommands}
+use Rattle.gtp_check_judge.specs.declared.asking.CheckCommand.TheVariants.{Faulty, Required}
 use Rattle.gtp_wire.specs.declared.commands.Command.TheVariants.{Boardsize, Komi, ClearBoard, FixedHandicap, Play}
 use Rattle.gtp_wire.specs.declared.commands.Command.TheVariants.{Genmove, Undo, Quit}
 use Rattle.gtp_wire.specs.Replies.{IsReply, GivesNoAnswer}
@@ -78,7 +79,8 @@ SaysScore engine None = ⊥
 SaysScore engine (Some said) = agrees_with engine.opinion (view_in engine.game said) ≡ true
 
 -- The same of each command: the text of a `final_score` is such a score; of a `name`, a `version` and a `known_command`
--- it is any; that of a `list_commands` has a row for each command that every engine has.
+-- it is any, and so it is of what has to fail and of what may not; that of a `list_commands` has a row for each command
+-- that every engine has.
 abbrev pub Says : RightEngine → CheckCommand → Choice → Bool → List ℕ → Type 0
 Says engine (Match command) choice ok text = SaysTo engine.game command choice ok text
 Says engine FinalScore choice true text = SaysScore engine (score_of_text text)
@@ -88,6 +90,8 @@ Says engine Version choice ok text = Unit {0}
 Says engine (KnownCommand known) choice ok text = Unit {0}
 Says engine ListCommands choice true text = lists_required (rows text) ≡ true
 Says engine ListCommands choice false text = Unit {0}
+Says engine (Faulty command) choice ok text = Unit {0}
+Says engine (Required command) choice ok text = Unit {0}
 Says engine (PlayInFull move) choice ok text = SaysTo engine.game (Play move) choice ok text
 Says engine (GenmoveInFull colour) choice ok text = SaysTo engine.game (Genmove colour) choice ok text
 
@@ -132,6 +136,8 @@ MayRefuse engine Name = Unit {0}
 MayRefuse engine Version = Unit {0}
 MayRefuse engine (KnownCommand known) = Unit {0}
 MayRefuse engine ListCommands = ⊥
+MayRefuse engine (Faulty command) = ⊥
+MayRefuse engine (Required command) = ⊥
 MayRefuse engine (PlayInFull move) = MayRefuseTo engine (Play move)
 MayRefuse engine (GenmoveInFull colour) = MayRefuseTo engine (Genmove colour)
 
@@ -150,6 +156,8 @@ after_refusal engine Name = engine
 after_refusal engine Version = engine
 after_refusal engine (KnownCommand known) = engine
 after_refusal engine ListCommands = engine
+after_refusal engine (Faulty command) = engine
+after_refusal engine (Required command) = engine
 after_refusal engine (PlayInFull move) = engine
 after_refusal engine (GenmoveInFull colour) = engine
 

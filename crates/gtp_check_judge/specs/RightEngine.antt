@@ -13,6 +13,7 @@ use Rattle.gtp_wire.specs.ReplyWords.{choice_of_text}
 use Rattle.gtp_check_judge.specs.declared.asking.CheckCommand.{CheckCommand}
 use Rattle.gtp_check_judge.specs.declared.asking.CheckCommand.TheVariants.{Match, FinalScore, Name, Version}
 use Rattle.gtp_check_judge.specs.declared.asking.CheckCommand.TheVariants.{KnownCommand, PlayInFull, GenmoveInFull, ListCommands}
+use Rattle.gtp_check_judge.specs.declared.asking.CheckCommand.TheVariants.{Faulty, Required}
 use Rattle.gtp_check_judge.specs.declared.scores.SaidScore.{SaidScore}
 use Rattle.gtp_check_judge.specs.declared.opinions.View.{View}
 use Rattle.gtp_check_judge.specs.declared.opinions.Opinion.{Opinion}
@@ -57,6 +58,8 @@ undone_after undone Name reply = undone
 undone_after undone Version reply = undone
 undone_after undone (KnownCommand known) reply = undone
 undone_after undone ListCommands reply = undone
+undone_after undone (Faulty command) reply = undone
+undone_after undone (Required command) reply = undone
 undone_after undone (PlayInFull move) reply =
     if reply.ok then undone_by undone (Play move) (choice_of_text reply.text.items) else undone
 undone_after undone (GenmoveInFull colour) reply =
@@ -91,5 +94,7 @@ opinion_after engine Name reply = engine.opinion
 opinion_after engine Version reply = engine.opinion
 opinion_after engine (KnownCommand known) reply = engine.opinion
 opinion_after engine ListCommands reply = engine.opinion
+opinion_after engine (Faulty command) reply = engine.opinion
+opinion_after engine (Required command) reply = engine.opinion
 opinion_after engine (PlayInFull move) reply = engine.opinion
 opinion_after engine (GenmoveInFull colour) reply = engine.opinion

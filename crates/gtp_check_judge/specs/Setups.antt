@@ -9,6 +9,7 @@ use Rattle.gtp_wire.specs.declared.commands.Command.TheVariants.{Genmove, Undo, 
 use Rattle.gtp_check_judge.specs.declared.asking.CheckCommand.{CheckCommand}
 use Rattle.gtp_check_judge.specs.declared.asking.CheckCommand.TheVariants.{Match, FinalScore, Name, Version}
 use Rattle.gtp_check_judge.specs.declared.asking.CheckCommand.TheVariants.{KnownCommand, PlayInFull, GenmoveInFull, ListCommands}
+use Rattle.gtp_check_judge.specs.declared.asking.CheckCommand.TheVariants.{Faulty, Required}
 use Rattle.gtp_check_judge.specs.declared.setups.Board.{Board}
 use Rattle.gtp_check_judge.specs.declared.setups.Board.TheVariants.{Unknown, Sized, Cleared}
 use Rattle.gtp_check_judge.specs.Komis.{is_exact_komi}
@@ -27,6 +28,8 @@ is_clear_board Name = false
 is_clear_board Version = false
 is_clear_board (KnownCommand known) = false
 is_clear_board ListCommands = false
+is_clear_board (Faulty command) = false
+is_clear_board (Required command) = false
 is_clear_board (PlayInFull move) = false
 is_clear_board (GenmoveInFull colour) = false
 
@@ -46,6 +49,8 @@ komi_after is_set Name = is_set
 komi_after is_set Version = is_set
 komi_after is_set (KnownCommand known) = is_set
 komi_after is_set ListCommands = is_set
+komi_after is_set (Faulty command) = is_set
+komi_after is_set (Required command) = is_set
 komi_after is_set (PlayInFull move) = is_set
 komi_after is_set (GenmoveInFull colour) = is_set
 
@@ -56,6 +61,8 @@ is_final_score Name = false
 is_final_score Version = false
 is_final_score (KnownCommand known) = false
 is_final_score ListCommands = false
+is_final_score (Faulty command) = false
+is_final_score (Required command) = false
 is_final_score (PlayInFull move) = false
 is_final_score (GenmoveInFull colour) = false
 
@@ -77,6 +84,8 @@ needs_board Name = false
 needs_board Version = false
 needs_board (KnownCommand known) = false
 needs_board ListCommands = false
+needs_board (Faulty command) = false
+needs_board (Required command) = false
 needs_board (PlayInFull move) = is_board_of (Play move)
 needs_board (GenmoveInFull colour) = is_board_of (Genmove colour)
 

@@ -13,6 +13,7 @@ use Rattle.gtp_check_judge.specs.declared.asking.Known.TheVariants as known
 use Rattle.gtp_check_judge.specs.declared.asking.CheckCommand.{CheckCommand}
 use Rattle.gtp_check_judge.specs.declared.asking.CheckCommand.TheVariants.{Match, FinalScore, Name, Version}
 use Rattle.gtp_check_judge.specs.declared.asking.CheckCommand.TheVariants.{KnownCommand, PlayInFull, GenmoveInFull, ListCommands}
+use Rattle.gtp_check_judge.specs.declared.asking.CheckCommand.TheVariants.{Faulty, Required}
 use Rattle.gtp_check_judge.specs.declared.skills.Skill.{Skill}
 use Rattle.gtp_check_judge.specs.declared.skills.Skill.TheVariants.{Unasked, Has, Lacks}
 use Rattle.gtp_check_judge.specs.declared.skills.Skills.{Skills}
@@ -36,6 +37,8 @@ needed_skill Name = None
 needed_skill Version = None
 needed_skill (KnownCommand asked) = None
 needed_skill ListCommands = None
+needed_skill (Faulty command) = None
+needed_skill (Required command) = None
 needed_skill (PlayInFull move) = None
 needed_skill (GenmoveInFull colour) = None
 
@@ -73,5 +76,7 @@ learned skills FinalScore reply = skills
 learned skills Name reply = skills
 learned skills Version reply = skills
 learned skills ListCommands reply = skills
+learned skills (Faulty command) reply = skills
+learned skills (Required command) reply = skills
 learned skills (PlayInFull move) reply = skills
 learned skills (GenmoveInFull colour) reply = skills

@@ -4,7 +4,8 @@ ghost use Rattle.std.specs.List.{join_with_byte};
 ghost use Rattle.go_base.specs.Bytes.{newline, space};
 ghost use Rattle.go_base.specs.Int.{most_int, written_int};
 ghost use Rattle.go_base.specs.Vertex.{written_vertex};
-ghost use Rattle.gtp_check_judge.specs.Asking.{known_name, written_check, IsCheckWritable, colour_in_full};
+ghost use Rattle.gtp_check_judge.specs.Asking.{faulty_words, known_name, required_words, written_check};
+ghost use Rattle.gtp_check_judge.specs.Asking.{IsCheckWritable, colour_in_full};
 
 use arrayvec::ArrayVec;
 use go_base::{Colour, Move, push, write_int};
@@ -19,6 +20,38 @@ pub enum Known {
     Undo,
     /// `final_score`.
     FinalScore,
+}
+
+/// A command that each correct engine refuses.
+#[derive(Clone, Copy, Debug, PartialEq, Eq)]
+pub enum FaultyCommand {
+    /// One that no engine has.
+    Unknown,
+    /// The same, with arguments.
+    UnknownWithArguments,
+    /// A `boardsize` whose argument is no number.
+    Boardsize,
+    /// A `komi` whose argument is no number.
+    Komi,
+    /// A `play` without a vertex.
+    PlayNowhere,
+    /// A `play` on a point that no board has.
+    PlayOutside,
+    /// A `genmove` whose argument is no colour.
+    Genmove,
+}
+
+/// A command that each correct engine has, and that never fails.
+#[derive(Clone, Copy, Debug, PartialEq, Eq)]
+pub enum RequiredCommand {
+    /// `protocol_version`.
+    ProtocolVersion,
+    /// `name`.
+    Name,
+    /// `version`.
+    Version,
+    /// `known_command`, with a command that no engine has.
+    KnownCommand,
 }
 
 /// A command of a check.
@@ -40,6 +73,10 @@ pub enum CheckCommand {
     PlayInFull(Move),
     /// A `genmove` whose colour is written in full.
     GenmoveInFull(Colour),
+    /// A command that has to fail.
+    Faulty(FaultyCommand),
+    /// A command that may not fail.
+    Required(RequiredCommand),
 }
 
 /// Returns the line of a command, with this id.
@@ -57,6 +94,8 @@ pub(crate) fn write_check(id: u32, command: &CheckCommand) -> CommandText
         CheckCommand::ListCommands => write_line(id, b"list_commands"),
         CheckCommand::PlayInFull(made) => write_line(id, &play_text(*made)),
         CheckCommand::GenmoveInFull(colour) => write_line(id, genmove_text(*colour)),
+        CheckCommand::Faulty(faulty) => write_line(id, faulty_text(*faulty)),
+        CheckCommand::Required(required) => write_line(id, required_text(*required)),
     }
 }
 
@@ -70,6 +109,35 @@ fn known_text(known: Known) -> &'static [u8]
         Known::FixedHandicap => b"known_command fixed_handicap",
         Known::Undo => b"known_command undo",
         Known::FinalScore => b"known_command final_score",
+    }
+}
+
+/// The text of a command that has to fail.
+fn faulty_text(faulty: FaultyCommand) -> &'static [u8]
+    ensures text { result.now ≡ join_with_byte space (faulty_words faulty) }
+    ensures few { length result.now ≤ 40 }
+{
+    match faulty {
+        FaultyCommand::Unknown => b"vintsaky-no-such-command",
+        FaultyCommand::UnknownWithArguments => b"vintsaky-no-such-command b D4",
+        FaultyCommand::Boardsize => b"boardsize x",
+        FaultyCommand::Komi => b"komi x",
+        FaultyCommand::PlayNowhere => b"play b",
+        FaultyCommand::PlayOutside => b"play b Z99",
+        FaultyCommand::Genmove => b"genmove x",
+    }
+}
+
+/// The text of a command that may not fail.
+fn required_text(required: RequiredCommand) -> &'static [u8]
+    ensures text { result.now ≡ join_with_byte space (required_words required) }
+    ensures few { length result.now ≤ 40 }
+{
+    match required {
+        RequiredCommand::ProtocolVersion => b"protocol_version",
+        RequiredCommand::Name => b"name",
+        RequiredCommand::Version => b"version",
+        RequiredCommand::KnownCommand => b"known_command vintsaky-no-such-command",
     }
 }
 

@@ -7,7 +7,7 @@ ghost use Rattle.gtp_check_judge.specs.Dues.{MayBeAsked, MayBeSaid, IsDue, IsDue
 ghost use Rattle.gtp_check_judge.specs.Dues.{after_due, komi_due, undone_once, undone_due, may_place, has_play, is_point};
 ghost use Rattle.gtp_check_judge.specs.Judging.{is_open, undo_may_fail, leaves_open, is_awaited};
 
-use crate::asking::CheckCommand;
+use crate::asking::{CheckCommand, FaultyCommand};
 use crate::komis::is_exact_komi;
 use crate::opinions::Opinion;
 use go_base::{Colour, Komi, Move, Size, Vertex};
@@ -23,6 +23,8 @@ pub enum Cause {
     BadHandicap(HandicapFault),
     /// There is no move to undo.
     NoMoves,
+    /// No engine has this command, or its arguments can't be read.
+    BadCommand(FaultyCommand),
 }
 
 /// What is due to a command: the replies that are correct.
@@ -63,7 +65,9 @@ pub(crate) fn may_be_asked(game: &Game, command: &CheckCommand) -> bool
         CheckCommand::Name
         | CheckCommand::Version
         | CheckCommand::KnownCommand(_)
-        | CheckCommand::ListCommands => true,
+        | CheckCommand::ListCommands
+        | CheckCommand::Faulty(_)
+        | CheckCommand::Required(_) => true,
         CheckCommand::PlayInFull(made) => may_be_said(game, &Command::Play(*made)),
         CheckCommand::GenmoveInFull(colour) => may_be_said(game, &Command::Genmove(*colour)),
     }
@@ -140,7 +144,9 @@ pub(crate) fn is_awaited(
         | CheckCommand::Version
         | CheckCommand::KnownCommand(_)
         | CheckCommand::ListCommands
-        | CheckCommand::PlayInFull(_) => false,
+        | CheckCommand::PlayInFull(_)
+        | CheckCommand::Faulty(_)
+        | CheckCommand::Required(_) => false,
     }
 }
 
@@ -194,6 +200,8 @@ pub(crate) fn due_to(
         CheckCommand::ListCommands => Due::Lists,
         CheckCommand::PlayInFull(made) => play_due(game, *made),
         CheckCommand::GenmoveInFull(colour) => Due::Chooses(*colour),
+        CheckCommand::Faulty(faulty) => Due::Fails(Cause::BadCommand(*faulty)),
+        CheckCommand::Required(_) => Due::Succeeds,
     }
 }
 

@@ -337,7 +337,9 @@ fn in_limits(game: &Game, command: &CheckCommand)
         | CheckCommand::Version
         | CheckCommand::KnownCommand(_)
         | CheckCommand::ListCommands
-        | CheckCommand::GenmoveInFull(_) => {}
+        | CheckCommand::GenmoveInFull(_)
+        | CheckCommand::Faulty(_)
+        | CheckCommand::Required(_) => {}
         CheckCommand::PlayInFull(made) => vertex_in_limits(made.vertex),
     }
 }

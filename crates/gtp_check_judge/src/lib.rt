@@ -21,7 +21,7 @@ mod setups;
 mod skills;
 mod unanswered;
 
-pub use asking::{CheckCommand, Known};
+pub use asking::{CheckCommand, FaultyCommand, Known, RequiredCommand};
 pub use dues::{Cause, Due};
 pub use exam::{Asking, Finding, Heard};
 pub use examiner::Examiner;

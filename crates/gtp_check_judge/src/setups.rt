@@ -61,7 +61,9 @@ pub(crate) fn needs_board(command: &CheckCommand) -> bool
         CheckCommand::Name
         | CheckCommand::Version
         | CheckCommand::KnownCommand(_)
-        | CheckCommand::ListCommands => false,
+        | CheckCommand::ListCommands
+        | CheckCommand::Faulty(_)
+        | CheckCommand::Required(_) => false,
     }
 }
 

@@ -77,7 +77,9 @@ fn needed_skill(command: &CheckCommand) -> Option<Known>
         | CheckCommand::KnownCommand(_)
         | CheckCommand::ListCommands
         | CheckCommand::PlayInFull(_)
-        | CheckCommand::GenmoveInFull(_) => None,
+        | CheckCommand::GenmoveInFull(_)
+        | CheckCommand::Faulty(_)
+        | CheckCommand::Required(_) => None,
     }
 }
 
@@ -122,7 +124,9 @@ pub(crate) fn learned(skills: &Skills, command: &CheckCommand, reply: &Reply) ->
         | CheckCommand::Version
         | CheckCommand::ListCommands
         | CheckCommand::PlayInFull(_)
-        | CheckCommand::GenmoveInFull(_) => *skills,
+        | CheckCommand::GenmoveInFull(_)
+        | CheckCommand::Faulty(_)
+        | CheckCommand::Required(_) => *skills,
     }
 }
 

@@ -9,6 +9,7 @@ use Rattle.gtp_check_judge.specs.declared.asking.CheckCommand.{CheckCommand}
 use Rattle.gtp_check_judge.specs.declared.asking.CheckCommand.TheVariants.{Match, FinalScore, Name, Version}
 use Rattle.gtp_check_judge.specs.declared.asking.CheckCommand.TheVariants.{KnownCommand, PlayInFull, GenmoveInFull}
 use Rattle.gtp_check_judge.specs.declared.asking.CheckCommand.TheVariants.{ListCommands}
+use Rattle.gtp_check_judge.specs.declared.asking.CheckCommand.TheVariants.{Faulty, Required}
 use Rattle.gtp_check_talk.specs.declared.said.Said.{Said}
 
 -- What a command of a match did, where this one was asked next, with the game as it was then: a `genmove` made a move,
@@ -33,6 +34,8 @@ asked_as Name said next = Some Name
 asked_as Version said next = Some Version
 asked_as (KnownCommand known) said next = Some (KnownCommand known)
 asked_as ListCommands said next = Some ListCommands
+asked_as (Faulty faulty) said next = Some (Faulty faulty)
+asked_as (Required required) said next = Some (Required required)
 asked_as (PlayInFull move) said next = Some (PlayInFull move)
 asked_as (GenmoveInFull colour) said next =
     if nat_lt said.moves next.moves then option_map (λ move. PlayInFull move) next.last else None

@@ -9,6 +9,7 @@ use Rattle.gtp_check_judge.specs.declared.asking.CheckCommand.{CheckCommand}
 use Rattle.gtp_check_judge.specs.declared.asking.CheckCommand.TheVariants.{Match, FinalScore, Name, Version}
 use Rattle.gtp_check_judge.specs.declared.asking.CheckCommand.TheVariants.{KnownCommand, PlayInFull, GenmoveInFull}
 use Rattle.gtp_check_judge.specs.declared.asking.CheckCommand.TheVariants.{ListCommands}
+use Rattle.gtp_check_judge.specs.declared.asking.CheckCommand.TheVariants.{Faulty, Required}
 use Rattle.gtp_check_shortening.specs.declared.parts.Part.{Part}
 use Rattle.gtp_check_shortening.specs.declared.limits.Limits.{Limits}
 
@@ -37,6 +38,8 @@ is_setup Name = false
 is_setup Version = false
 is_setup (KnownCommand asked) = true
 is_setup ListCommands = false
+is_setup (Faulty faulty) = false
+is_setup (Required required) = false
 is_setup (PlayInFull move) = false
 is_setup (GenmoveInFull colour) = false
 

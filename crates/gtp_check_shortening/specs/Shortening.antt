@@ -17,6 +17,7 @@ use Rattle.gtp_check_judge.specs.declared.asking.CheckCommand.{CheckCommand}
 use Rattle.gtp_check_judge.specs.declared.asking.CheckCommand.TheVariants.{Match, FinalScore, Name, Version}
 use Rattle.gtp_check_judge.specs.declared.asking.CheckCommand.TheVariants.{KnownCommand, PlayInFull, GenmoveInFull}
 use Rattle.gtp_check_judge.specs.declared.asking.CheckCommand.TheVariants.{ListCommands}
+use Rattle.gtp_check_judge.specs.declared.asking.CheckCommand.TheVariants.{Faulty, Required}
 use Rattle.gtp_check_judge.specs.declared.asking.Known.{Known}
 use Rattle.gtp_check_judge.specs.declared.asking.Known.TheVariants as known
 use Rattle.gtp_check_shortening.specs.declared.flat.Role.{Role}
@@ -49,6 +50,8 @@ command_role Name refused = role.Nothing
 command_role Version refused = role.Nothing
 command_role (KnownCommand asked) refused = role.Nothing
 command_role ListCommands refused = role.Nothing
+command_role (Faulty faulty) refused = role.Nothing
+command_role (Required required) refused = role.Nothing
 command_role (PlayInFull move) refused = match_role (Play move) refused
 command_role (GenmoveInFull colour) refused = match_role (Genmove colour) refused
 

@@ -13,6 +13,7 @@ use Rattle.gtp_check_judge.specs.declared.asking.CheckCommand.{CheckCommand}
 use Rattle.gtp_check_judge.specs.declared.asking.CheckCommand.TheVariants.{Match, FinalScore, Name, Version}
 use Rattle.gtp_check_judge.specs.declared.asking.CheckCommand.TheVariants.{KnownCommand, PlayInFull, GenmoveInFull}
 use Rattle.gtp_check_judge.specs.declared.asking.CheckCommand.TheVariants.{ListCommands}
+use Rattle.gtp_check_judge.specs.declared.asking.CheckCommand.TheVariants.{Faulty, Required}
 use Rattle.gtp_wire.specs.declared.commands.Command.{Command}
 use Rattle.gtp_wire.specs.declared.commands.Command.TheVariants.{Boardsize, Komi, ClearBoard, FixedHandicap, Play}
 use Rattle.gtp_wire.specs.declared.commands.Command.TheVariants.{Genmove, Undo, Quit}
@@ -54,6 +55,8 @@ after_asked game Name = Some game
 after_asked game Version = Some game
 after_asked game (KnownCommand known) = Some game
 after_asked game ListCommands = Some game
+after_asked game (Faulty faulty) = Some game
+after_asked game (Required required) = Some game
 after_asked game (PlayInFull move) = after_match game (Play move)
 after_asked game (GenmoveInFull colour) = after_match game (Genmove colour)
 

@@ -354,7 +354,9 @@ pub(crate) fn role_of(said: &Said) -> Role
         | CheckCommand::Name
         | CheckCommand::Version
         | CheckCommand::KnownCommand(_)
-        | CheckCommand::ListCommands => Role::Nothing,
+        | CheckCommand::ListCommands
+        | CheckCommand::Faulty(_)
+        | CheckCommand::Required(_) => Role::Nothing,
     }
 }
 

@@ -99,7 +99,9 @@ fn is_setup(command: &CheckCommand) -> bool
         | CheckCommand::Version
         | CheckCommand::ListCommands
         | CheckCommand::PlayInFull(_)
-        | CheckCommand::GenmoveInFull(_) => false,
+        | CheckCommand::GenmoveInFull(_)
+        | CheckCommand::Faulty(_)
+        | CheckCommand::Required(_) => false,
     }
 }
 

@@ -87,7 +87,9 @@ fn follow(game: &mut Game, command: &CheckCommand) -> bool
         | CheckCommand::Name
         | CheckCommand::Version
         | CheckCommand::KnownCommand(_)
-        | CheckCommand::ListCommands => true,
+        | CheckCommand::ListCommands
+        | CheckCommand::Faulty(_)
+        | CheckCommand::Required(_) => true,
     }
 }
 

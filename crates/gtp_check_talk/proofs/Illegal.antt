@@ -16,10 +16,11 @@ use Rattle.gtp_check_judge.specs.declared.asking.CheckCommand.{CheckCommand}
 use Rattle.gtp_check_judge.specs.declared.asking.CheckCommand.TheVariants.{Match, FinalScore, Name, Version}
 use Rattle.gtp_check_judge.specs.declared.asking.CheckCommand.TheVariants.{KnownCommand, PlayInFull, GenmoveInFull}
 use Rattle.gtp_check_judge.specs.declared.asking.CheckCommand.TheVariants.{ListCommands}
+use Rattle.gtp_check_judge.specs.declared.asking.CheckCommand.TheVariants.{Faulty, Required}
 use Rattle.gtp_check_judge.specs.declared.dues.Due.{Due}
 use Rattle.gtp_check_judge.specs.declared.dues.Due.TheVariants.{Succeeds, Fails, Places, Resizes, Scores, AnyReply}
 use Rattle.gtp_check_judge.specs.declared.dues.Due.TheVariants.{Chooses, MayUndo, Lists}
-use Rattle.gtp_check_judge.specs.declared.dues.Cause.TheVariants.{BadMove, BadHandicap, NoMoves}
+use Rattle.gtp_check_judge.specs.declared.dues.Cause.TheVariants.{BadMove, BadHandicap, NoMoves, BadCommand}
 use Rattle.gtp_check_judge.specs.Dues.{HandicapDue, IsDue, IsDueTo, MayBeAsked, MayBeSaid, PlayDue, UndoDue}
 use Rattle.gtp_check_judge.specs.Komis.{is_exact_komi}
 use Rattle.gtp_check_judge.specs.RightEngine.{RightEngine}
@@ -46,6 +47,7 @@ of_play game move (Fails (BadMove fault)) room is =
     (λ yes. not_legal game move.colour move.vertex fault room is, λ illegal. refl)
 of_play game move (Fails (BadHandicap fault)) room is = absurd is
 of_play game move (Fails NoMoves) room is = absurd is
+of_play game move (Fails (BadCommand command)) room is = absurd is
 of_play game move (Places size count) room is = absurd is
 of_play game move (Resizes size) room is = absurd is
 of_play game move (Scores size komi) room is = absurd is
@@ -66,6 +68,7 @@ of_handicap game stones (Places size count) is = refl
 of_handicap game stones (Fails (BadHandicap fault)) is = refl
 of_handicap game stones (Fails (BadMove fault)) is = absurd is
 of_handicap game stones (Fails NoMoves) is = absurd is
+of_handicap game stones (Fails (BadCommand command)) is = absurd is
 of_handicap game stones Succeeds is = absurd is
 of_handicap game stones (Resizes size) is = absurd is
 of_handicap game stones (Scores size komi) is = absurd is
@@ -80,6 +83,7 @@ of_undo engine Succeeds is = refl
 of_undo engine MayUndo is = refl
 of_undo engine (Fails (BadMove fault)) is = absurd is
 of_undo engine (Fails (BadHandicap fault)) is = absurd is
+of_undo engine (Fails (BadCommand command)) is = absurd is
 of_undo engine (Places size count) is = absurd is
 of_undo engine (Resizes size) is = absurd is
 of_undo engine (Scores size komi) is = absurd is
@@ -111,5 +115,7 @@ illegal_by engine Name due may is = no_move due AnyReply is refl
 illegal_by engine Version due may is = no_move due AnyReply is refl
 illegal_by engine (KnownCommand known) due may is = no_move due AnyReply is refl
 illegal_by engine ListCommands due may is = no_move due Lists is refl
+illegal_by engine (Faulty faulty) due may is = no_move due (Fails (BadCommand faulty)) is refl
+illegal_by engine (Required required) due may is = no_move due Succeeds is refl
 illegal_by engine (PlayInFull move) due may is = of_play engine.game move due may is
 illegal_by engine (GenmoveInFull colour) due may is = no_move due (Chooses colour) is.0 refl

@@ -7,6 +7,7 @@ use Rattle.gtp_wire.specs.declared.replies.Reply.{Reply}
 use Rattle.gtp_check_judge.specs.declared.asking.CheckCommand.{CheckCommand}
 use Rattle.gtp_check_judge.specs.declared.asking.CheckCommand.TheVariants.{Match, FinalScore, Name, Version}
 use Rattle.gtp_check_judge.specs.declared.asking.CheckCommand.TheVariants.{KnownCommand, ListCommands, PlayInFull}
+use Rattle.gtp_check_judge.specs.declared.asking.CheckCommand.TheVariants.{Faulty, Required}
 use Rattle.gtp_check_judge.specs.declared.asking.CheckCommand.TheVariants.{GenmoveInFull}
 use Rattle.gtp_check_judge.specs.declared.judging.Refusal.{Refusal}
 use Rattle.gtp_check_judge.specs.declared.judging.Refusal.TheVariants as refusal
@@ -55,6 +56,8 @@ of_keeps (KnownCommand known) reply skills notes = record { unanswered_starts = 
 of_keeps (Match command) reply skills notes = match_keeps command reply notes
 of_keeps FinalScore reply skills notes = same notes
 of_keeps ListCommands reply skills notes = same notes
+of_keeps (Faulty faulty) reply skills notes = same notes
+of_keeps (Required required) reply skills notes = same notes
 of_keeps (PlayInFull move) reply skills notes = match_keeps (Play move) reply notes
 of_keeps (GenmoveInFull colour) reply skills notes = match_keeps (Genmove colour) reply notes
 

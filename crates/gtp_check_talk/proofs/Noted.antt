@@ -15,6 +15,7 @@ use Rattle.gtp_process.specs.declared.starter.Process.{Ghosts}
 use Rattle.gtp_check_judge.specs.declared.asking.CheckCommand.{CheckCommand}
 use Rattle.gtp_check_judge.specs.declared.asking.CheckCommand.TheVariants.{Match, FinalScore, Name, Version}
 use Rattle.gtp_check_judge.specs.declared.asking.CheckCommand.TheVariants.{KnownCommand, ListCommands, PlayInFull}
+use Rattle.gtp_check_judge.specs.declared.asking.CheckCommand.TheVariants.{Faulty, Required}
 use Rattle.gtp_check_judge.specs.declared.asking.CheckCommand.TheVariants.{GenmoveInFull}
 use Rattle.gtp_check_judge.specs.declared.exam.Exam.{Exam}
 use Rattle.gtp_check_judge.specs.declared.judging.Judgement.{Judgement}
@@ -98,6 +99,8 @@ moves Name is = absurd (cc is)
 moves Version is = absurd (cc is)
 moves (KnownCommand known) is = absurd (cc is)
 moves ListCommands is = absurd (cc is)
+moves (Faulty faulty) is = absurd (cc is)
+moves (Required required) is = absurd (cc is)
 moves (PlayInFull move) is = AsksForMove.plays_in_full move
 moves (GenmoveInFull colour) is = AsksForMove.chooses_in_full colour
 

@@ -74,6 +74,7 @@ once_more lesson (one ∷ list) is (all, once) =
 each_lesson : (lesson : Lesson) → is_member same_lesson all_lessons lesson ≡ true
 each_lesson lesson.Start = refl
 each_lesson lesson.Placed = refl
+each_lesson lesson.Errors = refl
 each_lesson lesson.Sizes = refl
 each_lesson lesson.Ko = refl
 each_lesson lesson.Captures = refl

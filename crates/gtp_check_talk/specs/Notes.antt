@@ -8,6 +8,7 @@ use Rattle.gtp_check_judge.specs.declared.asking.CheckCommand.{CheckCommand}
 use Rattle.gtp_check_judge.specs.declared.asking.CheckCommand.TheVariants.{Match, FinalScore, Name, Version}
 use Rattle.gtp_check_judge.specs.declared.asking.CheckCommand.TheVariants.{KnownCommand, PlayInFull, GenmoveInFull}
 use Rattle.gtp_check_judge.specs.declared.asking.CheckCommand.TheVariants.{ListCommands}
+use Rattle.gtp_check_judge.specs.declared.asking.CheckCommand.TheVariants.{Faulty, Required}
 use Rattle.gtp_check_judge.specs.declared.judging.Refusal.{Refusal}
 use Rattle.gtp_check_judge.specs.declared.judging.Refusal.TheVariants as refusal
 use Rattle.gtp_check_judge.specs.declared.judging.Refusal.TheVariants.{Size}
@@ -69,6 +70,8 @@ asks_for_move Name = false
 asks_for_move Version = false
 asks_for_move (KnownCommand known) = false
 asks_for_move ListCommands = false
+asks_for_move (Faulty faulty) = false
+asks_for_move (Required required) = false
 asks_for_move (PlayInFull move) = true
 asks_for_move (GenmoveInFull colour) = true
 
@@ -158,6 +161,8 @@ noted_of (KnownCommand known) reply skills notes = with_lacks notes skills
 noted_of (Match command) reply skills notes = with_match notes command reply.ok
 noted_of FinalScore reply skills notes = notes
 noted_of ListCommands reply skills notes = notes
+noted_of (Faulty faulty) reply skills notes = notes
+noted_of (Required required) reply skills notes = notes
 noted_of (PlayInFull move) reply skills notes = with_match notes (Play move) reply.ok
 noted_of (GenmoveInFull colour) reply skills notes = with_match notes (Genmove colour) reply.ok
 

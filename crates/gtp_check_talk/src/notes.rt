@@ -138,7 +138,10 @@ impl Notes {
             CheckCommand::GenmoveInFull(colour) => {
                 self.take_match(&Command::Genmove(*colour), reply.ok);
             }
-            CheckCommand::FinalScore | CheckCommand::ListCommands => {}
+            CheckCommand::FinalScore
+            | CheckCommand::ListCommands
+            | CheckCommand::Faulty(_)
+            | CheckCommand::Required(_) => {}
         }
     }
 
@@ -245,7 +248,9 @@ fn asks_for_move(command: &CheckCommand) -> bool
         | CheckCommand::Name
         | CheckCommand::Version
         | CheckCommand::KnownCommand(_)
-        | CheckCommand::ListCommands => false,
+        | CheckCommand::ListCommands
+        | CheckCommand::Faulty(_)
+        | CheckCommand::Required(_) => false,
     }
 }
 

@@ -8,9 +8,10 @@ use std::alloc::{AllocError, Global};
 
 /// What each lesson asks, in the order of a course, and where the rule is: a section of docs/rules.md or
 /// docs/protocol.md.
-static ASKED: [&[u8]; 14] = [
+static ASKED: [&[u8]; 15] = [
     b"the first moves, on the smallest board from 5x5 (protocol: Replies)",
     b"the stones of the engine's moves, and whose they are (rules: A play)",
+    b"commands that have to fail, and some that never do (protocol: Replies)",
     b"each size, its corners, and points off it (protocol: Values)",
     b"kos, and what looks like one (rules: Ko)",
     b"captures of one stone, of several, of chains (rules: A play)",

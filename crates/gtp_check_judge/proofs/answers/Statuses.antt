@@ -8,6 +8,7 @@ use Rattle.go_board.specs.Game.{GameRecord, with_move, without_last}
 use Rattle.gtp_check_judge.specs.declared.asking.CheckCommand.{CheckCommand}
 use Rattle.gtp_check_judge.specs.declared.asking.CheckCommand.TheVariants.{Match, FinalScore, Name, Version}
 use Rattle.gtp_check_judge.specs.declared.asking.CheckCommand.TheVariants.{KnownCommand, PlayInFull, GenmoveInFull, ListCommands}
+use Rattle.gtp_check_judge.specs.declared.asking.CheckCommand.TheVariants.{Faulty, Required}
 use Rattle.go_base.specs.declared.moves.Move.{Move}
 use Rattle.gtp_wire.specs.declared.commands.Command.TheVariants.{Boardsize, Komi, ClearBoard, FixedHandicap, Play}
 use Rattle.gtp_wire.specs.declared.commands.Command.TheVariants.{Genmove, Undo, Quit}
@@ -111,6 +112,8 @@ undone_done engine Name reply h ok = refl
 undone_done engine Version reply h ok = refl
 undone_done engine (KnownCommand k) reply h ok = refl
 undone_done engine ListCommands reply h ok = refl
+undone_done engine (Faulty command) reply h ok = refl
+undone_done engine (Required command) reply h ok = refl
 undone_done engine (PlayInFull move) reply h ok = if_true reply.ok false engine.undone ok
 undone_done engine (GenmoveInFull colour) reply h ok = absurd (cc (h.0))
 
@@ -123,6 +126,8 @@ undone_failed undone Name reply ok = refl
 undone_failed undone Version reply ok = refl
 undone_failed undone (KnownCommand k) reply ok = refl
 undone_failed undone ListCommands reply ok = refl
+undone_failed undone (Faulty command) reply ok = refl
+undone_failed undone (Required command) reply ok = refl
 undone_failed undone (PlayInFull move) reply ok = if_false reply.ok _ undone ok
 undone_failed undone (GenmoveInFull colour) reply ok = if_false reply.ok _ undone ok
 
@@ -175,6 +180,8 @@ undone_still engine Name due reply h still = refl
 undone_still engine Version due reply h still = refl
 undone_still engine (KnownCommand k) due reply h still = refl
 undone_still engine ListCommands due reply h still = refl
+undone_still engine (Faulty command) due reply h still = refl
+undone_still engine (Required command) due reply h still = refl
 undone_still engine (PlayInFull move) due reply h still = absurd (play_stirs engine.game move due h still)
 undone_still engine (GenmoveInFull colour) due reply h still = absurd (subst IsStill h.0 still)
 
@@ -200,6 +207,8 @@ opinion_kept engine Name due reply h other = refl
 opinion_kept engine Version due reply h other = refl
 opinion_kept engine (KnownCommand k) due reply h other = refl
 opinion_kept engine ListCommands due reply h other = refl
+opinion_kept engine (Faulty command) due reply h other = refl
+opinion_kept engine (Required command) due reply h other = refl
 opinion_kept engine (PlayInFull move) due reply h other = refl
 opinion_kept engine (GenmoveInFull colour) due reply h other = refl
 

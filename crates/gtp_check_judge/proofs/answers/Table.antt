@@ -21,6 +21,11 @@ use Rattle.gtp_wire.specs.declared.commands.Command.{Command}
 use Rattle.gtp_check_judge.specs.declared.asking.CheckCommand.{CheckCommand}
 use Rattle.gtp_check_judge.specs.declared.asking.CheckCommand.TheVariants.{Match, FinalScore, Name, Version}
 use Rattle.gtp_check_judge.specs.declared.asking.CheckCommand.TheVariants.{KnownCommand, PlayInFull, GenmoveInFull, ListCommands}
+use Rattle.gtp_check_judge.specs.declared.asking.CheckCommand.TheVariants.{Faulty, Required}
+use Rattle.gtp_check_judge.specs.declared.asking.FaultyCommand.{FaultyCommand}
+use Rattle.gtp_check_judge.specs.declared.asking.FaultyCommand.TheVariants as faulty
+use Rattle.gtp_check_judge.specs.declared.asking.RequiredCommand.{RequiredCommand}
+use Rattle.gtp_check_judge.specs.declared.asking.RequiredCommand.TheVariants as required
 use Rattle.gtp_wire.specs.declared.commands.Command.TheVariants.{Boardsize, Komi, ClearBoard, FixedHandicap, Play}
 use Rattle.gtp_wire.specs.declared.commands.Command.TheVariants.{Genmove, Undo, Quit}
 use Rattle.gtp_wire.specs.Commands.{IsWritable, IsInLimits}
@@ -35,7 +40,7 @@ use Rattle.gtp_session.proofs.engines.Sent.{well_answer, undo_answer}
 use Rattle.gtp_check_judge.specs.declared.dues.Due.{Due}
 use Rattle.gtp_check_judge.specs.declared.dues.Due.TheVariants.{Succeeds, Fails, Places, Resizes, Scores, AnyReply}
 use Rattle.gtp_check_judge.specs.declared.dues.Due.TheVariants.{Chooses, MayUndo, Lists}
-use Rattle.gtp_check_judge.specs.declared.dues.Cause.TheVariants.{BadMove, BadHandicap, NoMoves}
+use Rattle.gtp_check_judge.specs.declared.dues.Cause.TheVariants.{BadMove, BadHandicap, NoMoves, BadCommand}
 use Rattle.gtp_check_judge.specs.Asking.{line_of_check, IsCheckWritable, IsCheckInLimits}
 use Rattle.gtp_check_judge.specs.RightEngine.{RightEngine}
 use Rattle.gtp_check_judge.specs.Dues.{IsDue, IsDueTo, after_check}
@@ -172,6 +177,7 @@ match_answered engine id (FixedHandicap stones) (Fails (BadHandicap fault)) ch i
     refused_stones engine.game id stones ch w (stones_unlawful engine.game stones fault h)
 match_answered engine id (FixedHandicap stones) (Fails (BadMove fault)) ch is w l h = absurd h
 match_answered engine id (FixedHandicap stones) (Fails NoMoves) ch is w l h = absurd h
+match_answered engine id (FixedHandicap stones) (Fails (BadCommand command)) ch is w l h = absurd h
 match_answered engine id (FixedHandicap stones) Succeeds ch is w l h = absurd h
 match_answered engine id (FixedHandicap stones) (Resizes s) ch is w l h = absurd h
 match_answered engine id (FixedHandicap stones) (Scores s k) ch is w l h = absurd h
@@ -184,6 +190,7 @@ match_answered engine id (Play move) (Fails (BadMove fault)) ch is w l h =
     refused_play engine.game id move ch l (move_unlawful engine.game move.colour move.vertex fault h)
 match_answered engine id (Play move) (Fails (BadHandicap fault)) ch is w l h = absurd h
 match_answered engine id (Play move) (Fails NoMoves) ch is w l h = absurd h
+match_answered engine id (Play move) (Fails (BadCommand command)) ch is w l h = absurd h
 match_answered engine id (Play move) (Places s n) ch is w l h = absurd h
 match_answered engine id (Play move) (Resizes s) ch is w l h = absurd h
 match_answered engine id (Play move) (Scores s k) ch is w l h = absurd h
@@ -209,6 +216,7 @@ match_answered engine id Undo (Fails NoMoves) ch is w l h =
     undo_nothing engine.game id ch (ap length h)
 match_answered engine id Undo (Fails (BadMove fault)) ch is w l h = absurd h
 match_answered engine id Undo (Fails (BadHandicap fault)) ch is w l h = absurd h
+match_answered engine id Undo (Fails (BadCommand command)) ch is w l h = absurd h
 match_answered engine id Undo (Places s n) ch is w l h = absurd h
 match_answered engine id Undo (Resizes s) ch is w l h = absurd h
 match_answered engine id Undo (Scores s k) ch is w l h = absurd h
@@ -242,6 +250,25 @@ match_so game command check MayUndo given same h = (h.0, h.1 ∙ sym same)
 match_so game command check Lists given same h = h
 match_so game command check (Chooses colour) given same h = h
 
+-- what no engine can read fails
+faulty_answered : (game : GameRecord) (id : ℕ) (command : FaultyCommand) (ch : Choice)
+    → AnswersSo game (Faulty command) (Fails NoMoves) (answer game (line_of_check id (Faulty command)) ch)
+faulty_answered game id faulty.Unknown ch = (refl, refl)
+faulty_answered game id faulty.UnknownWithArguments ch = (refl, refl)
+faulty_answered game id faulty.Boardsize ch = (refl, refl)
+faulty_answered game id faulty.Komi ch = (refl, refl)
+faulty_answered game id faulty.PlayNowhere ch = (refl, refl)
+faulty_answered game id faulty.PlayOutside ch = (refl, refl)
+faulty_answered game id faulty.Genmove ch = (refl, refl)
+
+-- what every engine has succeeds
+required_answered : (game : GameRecord) (id : ℕ) (command : RequiredCommand) (ch : Choice)
+    → AnswersSo game (Required command) Succeeds (answer game (line_of_check id (Required command)) ch)
+required_answered game id required.ProtocolVersion ch = (refl, refl)
+required_answered game id required.Name ch = (refl, refl)
+required_answered game id required.Version ch = (refl, refl)
+required_answered game id required.KnownCommand ch = (refl, refl)
+
 pub due_answered : (engine : RightEngine) (id : ℕ) (command : CheckCommand) (due : Due) (ch : Choice)
     → IsSize engine.game.size
     → IsCheckWritable command → IsCheckInLimits command → IsDue engine command due
@@ -267,6 +294,14 @@ due_answered engine id ListCommands due ch is w l h =
     subst (λ (d : Due). AnswersSo engine.game ListCommands d (answer engine.game (line_of_check id
     ListCommands) ch)) (sym h)
     (refl, refl)
+due_answered engine id (Faulty command) due ch is w l h =
+    subst (λ (d : Due). AnswersSo engine.game (Faulty command) d (answer engine.game (line_of_check id
+    (Faulty command)) ch)) (sym h)
+    (faulty_answered engine.game id command ch)
+due_answered engine id (Required command) due ch is w l h =
+    subst (λ (d : Due). AnswersSo engine.game (Required command) d (answer engine.game (line_of_check id
+    (Required command)) ch)) (sym h)
+    (required_answered engine.game id command ch)
 due_answered engine id (PlayInFull move) due ch is w l h =
     subst (AnswersSo engine.game (PlayInFull move) due) (sym (play_answer engine.game id move ch))
     (match_so engine.game (Play move) (PlayInFull move) due (answer engine.game (line_of_command (Some id) (Play move)) ch)

@@ -10,11 +10,12 @@ use Rattle.gtp_wire.specs.declared.commands.Command.{Command}
 use Rattle.gtp_check_judge.specs.declared.asking.CheckCommand.{CheckCommand}
 use Rattle.gtp_check_judge.specs.declared.asking.CheckCommand.TheVariants.{Match, FinalScore, Name, Version}
 use Rattle.gtp_check_judge.specs.declared.asking.CheckCommand.TheVariants.{KnownCommand, PlayInFull, GenmoveInFull, ListCommands}
+use Rattle.gtp_check_judge.specs.declared.asking.CheckCommand.TheVariants.{Faulty, Required}
 use Rattle.gtp_wire.specs.declared.commands.Command.TheVariants.{Boardsize, Komi, ClearBoard, FixedHandicap, Play}
 use Rattle.gtp_wire.specs.declared.commands.Command.TheVariants.{Genmove, Undo, Quit}
 use Rattle.gtp_wire.specs.Words.{reply_words}
 use Rattle.gtp_session.specs.Policy.{IsLawful}
-use Rattle.gtp_check_judge.specs.declared.dues.Cause.TheVariants.{BadMove, BadHandicap, NoMoves}
+use Rattle.gtp_check_judge.specs.declared.dues.Cause.TheVariants.{BadMove, BadHandicap, NoMoves, BadCommand}
 use Rattle.gtp_check_judge.specs.declared.dues.Due.{Due}
 use Rattle.gtp_check_judge.specs.declared.dues.Due.TheVariants.{Succeeds, Fails, Places, Resizes, Scores, AnyReply}
 use Rattle.gtp_check_judge.specs.declared.dues.Due.TheVariants.{Chooses, MayUndo, Lists}
@@ -46,6 +47,8 @@ says_success engine Name ch ok text h = tt
 says_success engine Version ch ok text h = tt
 says_success engine (KnownCommand k) ch ok text h = tt
 says_success engine ListCommands ch ok text h = absurd (cc h)
+says_success engine (Faulty command) ch ok text h = absurd (cc h)
+says_success engine (Required command) ch ok text h = tt
 says_success engine (PlayInFull move) ch ok text h = says_success_to engine (Play move) ch ok text h
 says_success engine (GenmoveInFull colour) ch ok text h = says_success_to engine (Genmove colour) ch ok text h
 
@@ -69,6 +72,8 @@ says_failure engine Name ch text = tt
 says_failure engine Version ch text = tt
 says_failure engine (KnownCommand k) ch text = tt
 says_failure engine ListCommands ch text = tt
+says_failure engine (Faulty command) ch text = tt
+says_failure engine (Required command) ch text = tt
 says_failure engine (PlayInFull move) ch text = says_failure_to engine.game (Play move) ch text
 says_failure engine (GenmoveInFull colour) ch text = says_failure_to engine.game (Genmove colour) ch text
 
@@ -97,6 +102,8 @@ says_points engine Name size stones ch text h named = absurd (cc h)
 says_points engine Version size stones ch text h named = absurd (cc h)
 says_points engine (KnownCommand k) size stones ch text h named = absurd (cc h)
 says_points engine ListCommands size stones ch text h named = absurd (cc h)
+says_points engine (Faulty command) size stones ch text h named = absurd (cc h)
+says_points engine (Required command) size stones ch text h named = absurd (cc h)
 says_points engine (PlayInFull move) size stones ch text h named =
     says_points_to engine (Play move) size stones ch text h named
 says_points engine (GenmoveInFull colour) size stones ch text h named =
@@ -125,6 +132,8 @@ points_said engine Name size stones ch text h said = absurd (cc h)
 points_said engine Version size stones ch text h said = absurd (cc h)
 points_said engine (KnownCommand k) size stones ch text h said = absurd (cc h)
 points_said engine ListCommands size stones ch text h said = absurd (cc h)
+points_said engine (Faulty command) size stones ch text h said = absurd (cc h)
+points_said engine (Required command) size stones ch text h said = absurd (cc h)
 points_said engine (PlayInFull move) size stones ch text h said = points_said_to engine (Play move) size stones ch text h said
 points_said engine (GenmoveInFull colour) size stones ch text h said = points_said_to engine (Genmove colour) size stones ch text h said
 
@@ -150,6 +159,8 @@ chooses_genmove engine Name colour h = absurd (cc h)
 chooses_genmove engine Version colour h = absurd (cc h)
 chooses_genmove engine (KnownCommand k) colour h = absurd (cc h)
 chooses_genmove engine ListCommands colour h = absurd (cc h)
+chooses_genmove engine (Faulty command) colour h = absurd (cc h)
+chooses_genmove engine (Required command) colour h = absurd (cc h)
 chooses_genmove engine (PlayInFull move) colour h = absurd h
 chooses_genmove engine (GenmoveInFull c) colour h =
     (let e : c ≡ colour = cc (h.0) in inr (ap GenmoveInFull e), h.1)
@@ -178,6 +189,8 @@ resizes_boardsize engine Name size h = absurd (cc h)
 resizes_boardsize engine Version size h = absurd (cc h)
 resizes_boardsize engine (KnownCommand k) size h = absurd (cc h)
 resizes_boardsize engine ListCommands size h = absurd (cc h)
+resizes_boardsize engine (Faulty command) size h = absurd (cc h)
+resizes_boardsize engine (Required command) size h = absurd (cc h)
 resizes_boardsize engine (PlayInFull move) size h = absurd h
 resizes_boardsize engine (GenmoveInFull colour) size h = absurd (cc (h.0))
 
@@ -197,6 +210,8 @@ undos_undo engine Name h = absurd (cc h)
 undos_undo engine Version h = absurd (cc h)
 undos_undo engine (KnownCommand k) h = absurd (cc h)
 undos_undo engine ListCommands h = absurd (cc h)
+undos_undo engine (Faulty command) h = absurd (cc h)
+undos_undo engine (Required command) h = absurd (cc h)
 undos_undo engine (PlayInFull move) h = absurd h
 undos_undo engine (GenmoveInFull colour) h = absurd (cc (h.0))
 
@@ -223,6 +238,8 @@ scores_final engine Name s k h = absurd (cc h)
 scores_final engine Version s k h = absurd (cc h)
 scores_final engine (KnownCommand known) s k h = absurd (cc h)
 scores_final engine ListCommands s k h = absurd (cc h)
+scores_final engine (Faulty command) s k h = absurd (cc h)
+scores_final engine (Required command) s k h = absurd (cc h)
 scores_final engine (PlayInFull move) s k h = absurd h
 scores_final engine (GenmoveInFull colour) s k h = absurd (cc (h.0))
 
@@ -244,6 +261,8 @@ lists_list engine Name h = absurd (cc h)
 lists_list engine Version h = absurd (cc h)
 lists_list engine (KnownCommand known) h = absurd (cc h)
 lists_list engine ListCommands h = refl
+lists_list engine (Faulty command) h = absurd (cc h)
+lists_list engine (Required command) h = absurd (cc h)
 lists_list engine (PlayInFull move) h = absurd h
 lists_list engine (GenmoveInFull colour) h = absurd (cc (h.0))
 
@@ -263,6 +282,8 @@ any_free engine Name h = tt
 any_free engine Version h = tt
 any_free engine (KnownCommand k) h = tt
 any_free engine ListCommands h = absurd (cc h)
+any_free engine (Faulty command) h = absurd (cc h)
+any_free engine (Required command) h = absurd (cc h)
 any_free engine (PlayInFull move) h = absurd h
 any_free engine (GenmoveInFull colour) h = absurd (cc (h.0))
 
@@ -281,6 +302,8 @@ any_refused engine Name h = refl
 any_refused engine Version h = refl
 any_refused engine (KnownCommand k) h = refl
 any_refused engine ListCommands h = absurd (cc h)
+any_refused engine (Faulty command) h = absurd (cc h)
+any_refused engine (Required command) h = absurd (cc h)
 any_refused engine (PlayInFull move) h = absurd h
 any_refused engine (GenmoveInFull colour) h = absurd (cc (h.0))
 
@@ -299,6 +322,8 @@ says_anything engine Name ch ok text h = tt
 says_anything engine Version ch ok text h = tt
 says_anything engine (KnownCommand k) ch ok text h = tt
 says_anything engine ListCommands ch ok text h = absurd (cc h)
+says_anything engine (Faulty command) ch ok text h = absurd (cc h)
+says_anything engine (Required command) ch ok text h = absurd (cc h)
 says_anything engine (PlayInFull move) ch ok text h = absurd h
 says_anything engine (GenmoveInFull colour) ch ok text h = absurd (cc (h.0))
 
@@ -322,6 +347,7 @@ undo_fails engine (Fails NoMoves) may h =
     absurd (let none : length engine.game.moves ≡ 0 = ap length h in omega (arith, may.moves, none))
 undo_fails engine (Fails (BadMove fault)) may h = absurd h
 undo_fails engine (Fails (BadHandicap fault)) may h = absurd h
+undo_fails engine (Fails (BadCommand command)) may h = absurd h
 undo_fails engine (Places size stones) may h = absurd h
 undo_fails engine (Resizes size) may h = absurd h
 undo_fails engine (Scores s k) may h = absurd h
@@ -344,5 +370,7 @@ free_fails engine Name due may h = subst MayFail (sym h) tt
 free_fails engine Version due may h = subst MayFail (sym h) tt
 free_fails engine (KnownCommand k) due may h = subst MayFail (sym h) tt
 free_fails engine ListCommands due may h = absurd may
+free_fails engine (Faulty command) due may h = absurd may
+free_fails engine (Required command) due may h = absurd may
 free_fails engine (PlayInFull move) due may h = absurd may
 free_fails engine (GenmoveInFull colour) due may h = absurd may

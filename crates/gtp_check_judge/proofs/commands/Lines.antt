@@ -21,7 +21,11 @@ use Rattle.gtp_check_judge.specs.declared.asking.Known.{Known}
 use Rattle.gtp_check_judge.specs.declared.asking.CheckCommand.{CheckCommand}
 use Rattle.gtp_check_judge.specs.declared.asking.CheckCommand.TheVariants.{Match, FinalScore, Name, Version}
 use Rattle.gtp_check_judge.specs.declared.asking.CheckCommand.TheVariants.{KnownCommand, PlayInFull, GenmoveInFull, ListCommands}
-use Rattle.gtp_check_judge.specs.Asking.{colour_in_full, known_name, written_check, line_of_check, IsCheckWritable, IsCheckInLimits}
+use Rattle.gtp_check_judge.specs.declared.asking.CheckCommand.TheVariants.{Faulty, Required}
+use Rattle.gtp_check_judge.specs.declared.asking.FaultyCommand.TheVariants as faulty
+use Rattle.gtp_check_judge.specs.declared.asking.RequiredCommand.TheVariants as required
+use Rattle.gtp_check_judge.specs.Asking.{colour_in_full, known_name, no_command, written_check, line_of_check}
+use Rattle.gtp_check_judge.specs.Asking.{IsCheckWritable, IsCheckInLimits}
 use Rattle.gtp_check_judge.specs.declared.exam.Exam.{Exam}
 use Rattle.gtp_check_judge.specs.Exam.{Asks}
 use Rattle.gtp_check_judge.specs.Exam.{HasRoomFor}
@@ -89,6 +93,39 @@ checks_are_lines id (KnownCommand k) later fits w l =
     words_are_lines id (codes "known_command") (known_name k ∷ []) later fits refl (known_words k) (known_short k)
 checks_are_lines id ListCommands later fits w l =
     words_are_lines id (codes "list_commands") [] later fits refl (one_word (codes "list_commands") refl, tt) (omega arith)
+checks_are_lines id (Faulty faulty.Unknown) later fits w l =
+    words_are_lines id no_command ([]) later fits refl
+    (one_word no_command refl, tt) (omega arith)
+checks_are_lines id (Faulty faulty.UnknownWithArguments) later fits w l =
+    words_are_lines id no_command (codes "b" ∷ codes "D4" ∷ []) later fits refl
+    (one_word no_command refl, (one_word (codes "b") refl, (one_word (codes "D4") refl, tt))) (omega arith)
+checks_are_lines id (Faulty faulty.Boardsize) later fits w l =
+    words_are_lines id (codes "boardsize") (codes "x" ∷ []) later fits refl
+    (one_word (codes "boardsize") refl, (one_word (codes "x") refl, tt)) (omega arith)
+checks_are_lines id (Faulty faulty.Komi) later fits w l =
+    words_are_lines id (codes "komi") (codes "x" ∷ []) later fits refl
+    (one_word (codes "komi") refl, (one_word (codes "x") refl, tt)) (omega arith)
+checks_are_lines id (Faulty faulty.PlayNowhere) later fits w l =
+    words_are_lines id (codes "play") (codes "b" ∷ []) later fits refl
+    (one_word (codes "play") refl, (one_word (codes "b") refl, tt)) (omega arith)
+checks_are_lines id (Faulty faulty.PlayOutside) later fits w l =
+    words_are_lines id (codes "play") (codes "b" ∷ codes "Z99" ∷ []) later fits refl
+    (one_word (codes "play") refl, (one_word (codes "b") refl, (one_word (codes "Z99") refl, tt))) (omega arith)
+checks_are_lines id (Faulty faulty.Genmove) later fits w l =
+    words_are_lines id (codes "genmove") (codes "x" ∷ []) later fits refl
+    (one_word (codes "genmove") refl, (one_word (codes "x") refl, tt)) (omega arith)
+checks_are_lines id (Required required.ProtocolVersion) later fits w l =
+    words_are_lines id (codes "protocol_version") ([]) later fits refl
+    (one_word (codes "protocol_version") refl, tt) (omega arith)
+checks_are_lines id (Required required.Name) later fits w l =
+    words_are_lines id (codes "name") ([]) later fits refl
+    (one_word (codes "name") refl, tt) (omega arith)
+checks_are_lines id (Required required.Version) later fits w l =
+    words_are_lines id (codes "version") ([]) later fits refl
+    (one_word (codes "version") refl, tt) (omega arith)
+checks_are_lines id (Required required.KnownCommand) later fits w l =
+    words_are_lines id (codes "known_command") (no_command ∷ []) later fits refl
+    (one_word (codes "known_command") refl, (one_word no_command refl, tt)) (omega arith)
 checks_are_lines id (PlayInFull move) later fits w l =
     words_are_lines id (codes "play") (colour_in_full move.colour ∷ written_vertex move.vertex ∷ []) later fits refl
     (one_word (codes "play") refl, (full_word move.colour, (vertex_word move.vertex l, tt)))

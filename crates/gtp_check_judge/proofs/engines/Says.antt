@@ -14,6 +14,9 @@ use Rattle.gtp_wire.specs.declared.commands.Command.{Command}
 use Rattle.gtp_check_judge.specs.declared.asking.CheckCommand.{CheckCommand}
 use Rattle.gtp_check_judge.specs.declared.asking.CheckCommand.TheVariants.{Match, FinalScore, Name, Version}
 use Rattle.gtp_check_judge.specs.declared.asking.CheckCommand.TheVariants.{KnownCommand, PlayInFull, GenmoveInFull, ListCommands}
+use Rattle.gtp_check_judge.specs.declared.asking.CheckCommand.TheVariants.{Faulty, Required}
+use Rattle.gtp_check_judge.specs.declared.asking.FaultyCommand.TheVariants as faulty
+use Rattle.gtp_check_judge.specs.declared.asking.RequiredCommand.TheVariants as required
 use Rattle.gtp_wire.specs.declared.commands.Command.TheVariants.{Boardsize, Komi, ClearBoard, FixedHandicap, Play}
 use Rattle.gtp_wire.specs.declared.commands.Command.TheVariants.{Genmove, Undo, Quit}
 use Rattle.gtp_wire.specs.declared.replies.Reply.{Reply}
@@ -90,6 +93,17 @@ asked_genmove game id (Match (Genmove c)) colour e = (c, inl refl)
 asked_genmove game id (Match Undo) colour e = absurd (cc e)
 asked_genmove game id (Match Quit) colour e = absurd (cc e)
 asked_genmove game id ListCommands colour e = absurd (cc e)
+asked_genmove game id (Faulty faulty.Unknown) colour e = absurd (cc e)
+asked_genmove game id (Faulty faulty.UnknownWithArguments) colour e = absurd (cc e)
+asked_genmove game id (Faulty faulty.Boardsize) colour e = absurd (cc e)
+asked_genmove game id (Faulty faulty.Komi) colour e = absurd (cc e)
+asked_genmove game id (Faulty faulty.PlayNowhere) colour e = absurd (cc e)
+asked_genmove game id (Faulty faulty.PlayOutside) colour e = absurd (cc e)
+asked_genmove game id (Faulty faulty.Genmove) colour e = absurd (cc e)
+asked_genmove game id (Required required.ProtocolVersion) colour e = absurd (cc e)
+asked_genmove game id (Required required.Name) colour e = absurd (cc e)
+asked_genmove game id (Required required.Version) colour e = absurd (cc e)
+asked_genmove game id (Required required.KnownCommand) colour e = absurd (cc e)
 asked_genmove game id (PlayInFull move) colour e = absurd (cc e)
 asked_genmove game id (GenmoveInFull c) colour e = (c, inr refl)
 
@@ -144,6 +158,8 @@ never_refused engine id Name ch may limits = refl
 never_refused engine id Version ch may limits = refl
 never_refused engine id (KnownCommand k) ch may limits = refl
 never_refused engine id ListCommands ch may limits = absurd may
+never_refused engine id (Faulty command) ch may limits = absurd may
+never_refused engine id (Required command) ch may limits = absurd may
 never_refused engine id (PlayInFull move) ch may limits = absurd may
 never_refused engine id (GenmoveInFull colour) ch may limits = absurd may
 
@@ -183,6 +199,8 @@ tabled_even before entry reply ch Name e is even = even
 tabled_even before entry reply ch Version e is even = even
 tabled_even before entry reply ch (KnownCommand k) e is even = even
 tabled_even before entry reply ch ListCommands e is even = even
+tabled_even before entry reply ch (Faulty command) e is even = even
+tabled_even before entry reply ch (Required command) e is even = even
 tabled_even before entry reply ch (PlayInFull move) e is even = even
 tabled_even before entry reply ch (GenmoveInFull colour) e is even = even
 tabled_even before entry reply ch FinalScore e is even = by reply.ok
@@ -278,6 +296,8 @@ engine_says engine id Name due ch is w l h lawful even = tt
 engine_says engine id Version due ch is w l h lawful even = tt
 engine_says engine id (KnownCommand k) due ch is w l h lawful even = tt
 engine_says engine id ListCommands due ch is w l h lawful even = all_listed
+engine_says engine id (Faulty command) due ch is w l h lawful even = tt
+engine_says engine id (Required command) due ch is w l h lawful even = tt
 engine_says engine id (PlayInFull move) due ch is w l h lawful even = tt
 engine_says engine id (GenmoveInFull Black) due ch is w l h lawful even =
     match_says engine (Some id) (Genmove Black) due ch is w l h lawful

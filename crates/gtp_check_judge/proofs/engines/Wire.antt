@@ -11,6 +11,9 @@ use Rattle.go_board.specs.declared.rules.KoRule.{KoRule}
 use Rattle.gtp_check_judge.specs.declared.asking.CheckCommand.{CheckCommand}
 use Rattle.gtp_check_judge.specs.declared.asking.CheckCommand.TheVariants.{Match, FinalScore, Name, Version}
 use Rattle.gtp_check_judge.specs.declared.asking.CheckCommand.TheVariants.{KnownCommand, PlayInFull, GenmoveInFull, ListCommands}
+use Rattle.gtp_check_judge.specs.declared.asking.CheckCommand.TheVariants.{Faulty, Required}
+use Rattle.gtp_check_judge.specs.declared.asking.FaultyCommand.TheVariants as faulty
+use Rattle.gtp_check_judge.specs.declared.asking.RequiredCommand.TheVariants as required
 use Rattle.gtp_wire.specs.declared.commands.Command.TheVariants.{Boardsize, Komi, ClearBoard, FixedHandicap, Play}
 use Rattle.gtp_wire.specs.declared.commands.Command.TheVariants.{Genmove, Undo, Quit}
 use Rattle.gtp_wire.specs.declared.lines.Line.{Line}
@@ -54,6 +57,17 @@ goes game id (Match (Genmove colour)) may = refl
 goes game id (Match Undo) may = refl
 goes game id (Match Quit) may = absurd may
 goes game id ListCommands may = refl
+goes game id (Faulty faulty.Unknown) may = refl
+goes game id (Faulty faulty.UnknownWithArguments) may = refl
+goes game id (Faulty faulty.Boardsize) may = refl
+goes game id (Faulty faulty.Komi) may = refl
+goes game id (Faulty faulty.PlayNowhere) may = refl
+goes game id (Faulty faulty.PlayOutside) may = refl
+goes game id (Faulty faulty.Genmove) may = refl
+goes game id (Required required.ProtocolVersion) may = refl
+goes game id (Required required.Name) may = refl
+goes game id (Required required.Version) may = refl
+goes game id (Required required.KnownCommand) may = refl
 goes game id (PlayInFull move) may = refl
 goes game id (GenmoveInFull colour) may = refl
 

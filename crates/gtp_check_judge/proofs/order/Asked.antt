@@ -8,6 +8,7 @@ use Rattle.go_board.specs.Game.{GameRecord}
 use Rattle.gtp_check_judge.specs.declared.asking.CheckCommand.{CheckCommand}
 use Rattle.gtp_check_judge.specs.declared.asking.CheckCommand.TheVariants.{Match, FinalScore, Name, Version}
 use Rattle.gtp_check_judge.specs.declared.asking.CheckCommand.TheVariants.{KnownCommand, PlayInFull, GenmoveInFull, ListCommands}
+use Rattle.gtp_check_judge.specs.declared.asking.CheckCommand.TheVariants.{Faulty, Required}
 use Rattle.gtp_wire.specs.declared.commands.Command.TheVariants.{Boardsize, Komi, ClearBoard, FixedHandicap, Play}
 use Rattle.gtp_wire.specs.declared.commands.Command.TheVariants.{Genmove, Undo, Quit}
 use Rattle.gtp_check_judge.specs.declared.dues.Due.{Due}
@@ -115,6 +116,10 @@ due_taken engine (KnownCommand k) due h =
     subst (λ (d : Due). MayBeTaken (after_due engine.game (KnownCommand k) d) d) (sym h) tt
 due_taken engine ListCommands due h =
     subst (λ (d : Due). MayBeTaken (after_due engine.game ListCommands d) d) (sym h) tt
+due_taken engine (Faulty command) due h =
+    subst (λ (d : Due). MayBeTaken (after_due engine.game (Faulty command) d) d) (sym h) tt
+due_taken engine (Required command) due h =
+    subst (λ (d : Due). MayBeTaken (after_due engine.game (Required command) d) d) (sym h) tt
 due_taken engine (PlayInFull move) Succeeds h = tt
 due_taken engine (PlayInFull move) (Fails cause) h = tt
 due_taken engine (PlayInFull move) (Places s n) h = absurd h
@@ -196,6 +201,8 @@ open_awaited engine Name due h e = absurd (never due (ap is_open h) e)
 open_awaited engine Version due h e = absurd (never due (ap is_open h) e)
 open_awaited engine (KnownCommand k) due h e = absurd (never due (ap is_open h) e)
 open_awaited engine ListCommands due h e = absurd (never due (ap is_open h) e)
+open_awaited engine (Faulty command) due h e = absurd (never due (ap is_open h) e)
+open_awaited engine (Required command) due h e = absurd (never due (ap is_open h) e)
 open_awaited engine (PlayInFull move) due h e = absurd (never due (play_closed engine.game move due h) e)
 open_awaited engine (GenmoveInFull colour) due h e = refl
 

@@ -9,6 +9,7 @@ use Rattle.go_board.specs.declared.rules.KoRule.{KoRule}
 use Rattle.gtp_check_judge.specs.declared.asking.CheckCommand.{CheckCommand}
 use Rattle.gtp_check_judge.specs.declared.asking.CheckCommand.TheVariants.{Match, FinalScore, Name, Version}
 use Rattle.gtp_check_judge.specs.declared.asking.CheckCommand.TheVariants.{KnownCommand, PlayInFull, GenmoveInFull, ListCommands}
+use Rattle.gtp_check_judge.specs.declared.asking.CheckCommand.TheVariants.{Faulty, Required}
 use Rattle.gtp_wire.specs.declared.commands.Command.TheVariants.{Boardsize, Komi, ClearBoard, FixedHandicap, Play}
 use Rattle.gtp_wire.specs.declared.commands.Command.TheVariants.{Genmove, Undo, Quit}
 use Rattle.gtp_wire.specs.declared.replies.Reply.{Reply}
@@ -140,6 +141,8 @@ refusal_size engine Name = refl
 refusal_size engine Version = refl
 refusal_size engine (KnownCommand known) = refl
 refusal_size engine ListCommands = refl
+refusal_size engine (Faulty command) = refl
+refusal_size engine (Required command) = refl
 refusal_size engine (PlayInFull move) = refl
 refusal_size engine (GenmoveInFull colour) = refl
 

@@ -3,8 +3,11 @@ use Rattle.std.specs.Prelude.{ℕ, List, codes}
 use Rattle.go_board.specs.declared.faults.HandicapFault.TheVariants.{NotEmpty, BadNumber}
 use Rattle.gtp_check_judge.specs.declared.asking.CheckCommand.{CheckCommand}
 use Rattle.gtp_check_judge.specs.declared.asking.CheckCommand.TheVariants.{PlayInFull, GenmoveInFull, ListCommands}
+use Rattle.gtp_check_judge.specs.declared.asking.CheckCommand.TheVariants.{Required}
+use Rattle.gtp_check_judge.specs.declared.asking.FaultyCommand.{FaultyCommand}
+use Rattle.gtp_check_judge.specs.declared.asking.FaultyCommand.TheVariants as faulty
 use Rattle.gtp_check_judge.specs.declared.dues.Cause.{Cause}
-use Rattle.gtp_check_judge.specs.declared.dues.Cause.TheVariants.{BadMove, BadHandicap, NoMoves}
+use Rattle.gtp_check_judge.specs.declared.dues.Cause.TheVariants.{BadMove, BadHandicap, NoMoves, BadCommand}
 use Rattle.gtp_check_judge.specs.declared.judging.Kind.{Kind}
 use Rattle.gtp_check_judge.specs.declared.judging.Kind.TheVariants as kind
 use Rattle.gtp_wire.specs.declared.commands.Command.{Command}
@@ -24,7 +27,18 @@ abbrev pub other_sentence : CheckCommand → List ℕ
 other_sentence (PlayInFull move) = codes "a colour may be written in full: black for b, and white for w"
 other_sentence (GenmoveInFull colour) = codes "a colour may be written in full: black for b, and white for w"
 other_sentence ListCommands = codes "each engine has list_commands"
+other_sentence (Required required) = codes "each engine has this command, and it never fails"
 other_sentence _ = codes "the command succeeds"
+
+-- why a right engine refuses a command that has to fail
+abbrev pub faulty_sentence : FaultyCommand → List ℕ
+faulty_sentence faulty.Unknown = codes "a failure: no engine has this command"
+faulty_sentence faulty.UnknownWithArguments = codes "a failure: no engine has this command"
+faulty_sentence faulty.Boardsize = codes "a failure, which changes nothing: a size is a number"
+faulty_sentence faulty.Komi = codes "a failure, which changes nothing: a komi is a number"
+faulty_sentence faulty.PlayNowhere = codes "a failure, which changes nothing: a play has a colour and a vertex"
+faulty_sentence faulty.PlayOutside = codes "a failure, which changes nothing: no board has this point"
+faulty_sentence faulty.Genmove = codes "a failure, which changes nothing: a colour is b, w, black or white"
 
 -- why a right engine refuses a command
 abbrev pub cause_sentence : Cause → List ℕ
@@ -32,6 +46,7 @@ cause_sentence (BadMove fault) = codes "the move isn't legal"
 cause_sentence (BadHandicap NotEmpty) = codes "a handicap is placed on an empty board alone, before any move"
 cause_sentence (BadHandicap BadNumber) = codes "the size doesn't allow this number of handicap stones"
 cause_sentence NoMoves = codes "there is no move to take back"
+cause_sentence (BadCommand command) = faulty_sentence command
 
 -- what a right engine writes in place of what was wrong
 abbrev pub kind_sentence : Kind → List ℕ

@@ -1,10 +1,10 @@
 //! What is right, in sentences that depend on neither board nor vertex.
 ghost use Rattle.std.specs.Prelude.{◌≡◌};
-ghost use Rattle.gtp_check_texts.specs.reasons.Sentences.{cause_sentence, command_sentence, kind_sentence};
-ghost use Rattle.gtp_check_texts.specs.reasons.Sentences.{no_move_sentence, other_sentence};
+ghost use Rattle.gtp_check_texts.specs.reasons.Sentences.{cause_sentence, command_sentence, faulty_sentence};
+ghost use Rattle.gtp_check_texts.specs.reasons.Sentences.{kind_sentence, no_move_sentence, other_sentence};
 
 use go_board::HandicapFault;
-use gtp_check_judge::{Cause, CheckCommand, Kind};
+use gtp_check_judge::{Cause, CheckCommand, FaultyCommand, Kind};
 use gtp_wire::Command;
 
 /// Returns why a correct engine accepts a command of a match.
@@ -34,6 +34,7 @@ pub(crate) fn other_sentence(command: &CheckCommand) -> &'static [u8]
             b"a colour may be written in full: black for b, and white for w"
         }
         CheckCommand::ListCommands => b"each engine has list_commands",
+        CheckCommand::Required(_) => b"each engine has this command, and it never fails",
         _ => b"the command succeeds",
     }
 }
@@ -61,6 +62,29 @@ fn cause_sentence(cause: Cause) -> &'static [u8]
             b"the size doesn't allow this number of handicap stones"
         }
         Cause::NoMoves => b"there is no move to take back",
+        Cause::BadCommand(faulty) => faulty_sentence(faulty),
+    }
+}
+
+/// Returns why a correct engine refuses a command that has to fail.
+fn faulty_sentence(faulty: FaultyCommand) -> &'static [u8]
+    ensures { result.now ≡ faulty_sentence faulty }
+{
+    match faulty {
+        FaultyCommand::Unknown | FaultyCommand::UnknownWithArguments => {
+            b"a failure: no engine has this command"
+        }
+        FaultyCommand::Boardsize => b"a failure, which changes nothing: a size is a number",
+        FaultyCommand::Komi => b"a failure, which changes nothing: a komi is a number",
+        FaultyCommand::PlayNowhere => {
+            b"a failure, which changes nothing: a play has a colour and a vertex"
+        }
+        FaultyCommand::PlayOutside => {
+            b"a failure, which changes nothing: no board has this point"
+        }
+        FaultyCommand::Genmove => {
+            b"a failure, which changes nothing: a colour is b, w, black or white"
+        }
     }
 }
 

@@ -1,5 +1,6 @@
 //! Tests of the examiner.
 mod conversations;
+mod errors;
 mod findings;
 mod scores;
 

@@ -8,8 +8,8 @@ from typing import Dict, List, Optional, Type
 from tests.engines.wrong.bug import Bug
 
 SUBJECTS = (
-    "replies ids lines sizes komi captures ko suicide turns undo handicap genmove records games "
-    "restarts"
+    "replies errors ids lines sizes komi captures ko suicide turns undo handicap genmove records "
+    "games restarts"
 ).split()
 
 

@@ -19,7 +19,7 @@ loop-lesson-preserved c =
 
 pub returns : goal.returns
 returns c =
-    let whole : c.loop-lesson.lesson-index ≡ 14 =
+    let whole : c.loop-lesson.lesson-index ≡ 15 =
     omega (arith, c.loop-lesson-test.false, c.loop-lesson.auto.lesson-index-end) in
     c.loop-lesson.invariant
     ∙ ap (λ number. c.args.text.now.items

@@ -17,7 +17,7 @@ fn three_of_a_kind_are_shown_and_starts_without_a_right_answer_are_counted(rt: H
         }
     }
     assert_equal(&rt, shown, 3);
-    assert_equal(&rt, tally.hidden[3], 2);
+    assert_equal(&rt, tally.hidden[4], 2);
     assert_equal(
         &rt,
         tally.find(Lesson::Ko, Fault::Wrote(Kind::NoMove)),

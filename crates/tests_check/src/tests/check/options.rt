@@ -25,7 +25,7 @@ fn options_have_defaults_and_lessons_are_chosen_in_their_order(
     let plan = plan_of(rt.alloc(), &options, false)?;
     assert_equal(&rt, plan.words.len(), 2);
     assert_equal(&rt, plan.scene_size, None);
-    assert_equal(&rt, plan.lessons.len(), 14);
+    assert_equal(&rt, plan.lessons.len(), 15);
     assert_equal(&rt, plan.left_out.len(), 0);
     let words = [
         "gtp_check",
@@ -51,7 +51,7 @@ fn options_have_defaults_and_lessons_are_chosen_in_their_order(
     let plan = plan_of(rt.alloc(), &options, false)?;
     assert_equal(&rt, plan.suicide, Suicide::Unasked);
     assert_equal(&rt, plan.lessons.as_slice(), [Lesson::Ko].as_slice());
-    assert_equal(&rt, plan.left_out.len(), 13);
+    assert_equal(&rt, plan.left_out.len(), 14);
     assert_equal(&rt, plan.scene_size, Size::new(9));
     Ok(())
 }

@@ -31,7 +31,7 @@ static WAITING: [(&[&str], &[u8], Lesson, (u32, u32), &str); 2] = [
         b"1234567 known_command fixed_handicap",
         Lesson::Handicaps,
         (4_294_967_295, 4_294_967_295),
-        "waits for \"1234567 known_command fixed_handicap\", handicaps (8 of 14), 42949672",
+        "waits for \"1234567 known_command fixed_handicap\", handicaps (9 of 15), 42949672",
     ),
 ];
 

@@ -51,7 +51,7 @@ fn a_check_has_a_first_line_and_last_lines_and_a_lesson_has_a_line(
     let ending = Ending {
         over: &Over::NoMoreStarts,
         missed: &[Lesson::Games, Lesson::Restarts],
-        hidden: &[0, 0, 0, 4],
+        hidden: &[0, 0, 0, 0, 4],
         starts: 2,
         complaints: 0,
         suicides: 1,
@@ -66,7 +66,7 @@ check: it lacks undo; nothing was asked that needs it
 check: it first refused an undo after 400 undos in a row
 check: it refuses the sizes 1 25
 check: 1 suicide by genmove, not judged, as the options say
-check: 14 commands, 2 starts, 0 complaints
+check: 15 commands, 2 starts, 0 complaints
 ";
     assert_equal(&rt, str::from_utf8(last.as_slice())?, expected);
     let list = list_text(rt.alloc())?;

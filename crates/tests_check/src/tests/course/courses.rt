@@ -24,7 +24,7 @@ struct Talk {
     kills: u32,
     asked: u32,
     /// How many moves were asked in the lesson of each number.
-    moves: [u32; 14],
+    moves: [u32; 15],
 }
 
 impl Talk {
@@ -38,7 +38,7 @@ impl Talk {
             starts: 0,
             kills: 0,
             asked: 0,
-            moves: [0; 14],
+            moves: [0; 15],
         }
     }
 

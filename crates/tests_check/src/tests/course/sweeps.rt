@@ -122,9 +122,10 @@ fn sixteen_komis_are_asked_and_each_lesson_has_a_name_of_its_own(rt: HostRuntime
 }
 
 /// The names of the lessons, in the order of a course.
-static NAMES: [&str; 14] = [
+static NAMES: [&str; 15] = [
     "start",
     "placed",
+    "errors",
     "sizes",
     "ko",
     "captures",
@@ -141,7 +142,7 @@ static NAMES: [&str; 14] = [
 
 #[test]
 fn lessons_have_names_and_an_order(rt: HostRuntime) {
-    assert_equal(&rt, LESSONS.len(), 14);
+    assert_equal(&rt, LESSONS.len(), 15);
     for (number, (lesson, name)) in LESSONS.iter().zip(NAMES).enumerate() {
         assert_equal_for(&rt, number, lesson.name(), name);
         assert_equal_for(&rt, name, lesson.number(), number);
