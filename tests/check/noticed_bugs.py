@@ -76,6 +76,8 @@ OTHERS: Dict[Lessons, Tuple[str, ...]] = {
     ("komi",): (
         "score_runs_into_the_id prisoners_stay_at_undo undo_sets_komi_back",
         "prisoners_of_the_game_before",
+        # a score after a handicap
+        "handicap_sets_komi points_for_a_handicap_stay",
     ),
     ("captures",): (
         "note_at_a_capture capture_is_suicide atari_is_no_suicide",
@@ -119,11 +121,7 @@ OTHERS: Dict[Lessons, Tuple[str, ...]] = {
         # a genmove after 60 drawn moves on 5x5
         "points_twice",
     ),
-    # scores before and after a handicap
-    ("games",): (
-        "ends_at_the_third_game colour_of_the_first_genmove",
-        "handicap_sets_komi points_for_a_handicap_stay",
-    ),
+    ("games",): ("ends_at_the_third_game colour_of_the_first_genmove",),
     # random games: long chains and play between them, two boards with equal counts, more than eight
     # boards, a board with other colours, a probe after 100 moves; the second size is smaller than
     # the first

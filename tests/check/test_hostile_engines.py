@@ -155,9 +155,9 @@ ENGINES = {
             f"{TOP}/tournament/patience 1 ",
             "patience: no answer in time to '1 name'\n",
         ),
-        # It refuses the name, and in each of 16 parts each size from 5 on, and 5 again, which an
+        # It refuses the name, and in each of 19 parts each size from 5 on, and one more, which an
         # engine may. So no pass is earned.
-        Hostile("refuses", "-", NO, ("--only", "komi"), None, "", 1, 5 + 16 * 22),
+        Hostile("refuses", "-", NO, ("--only", "komi"), None, "", 1, 5 + 19 * 22),
     )
 }
 SILENT = Hostile("silent", "*/c1-999//on", "<reply>", START, None, "", 1, 1)
@@ -191,7 +191,7 @@ def test_engine_that_refuses_everything(checker: Checker, tmp_path: Path) -> Non
     parts = {
         **{"start": 4, "placed": 1, "errors": 4, "sizes": 25, "ko": 6 * 16},
         **{"captures": 8 * 16, "suicide": 5 * 16, "joining": 4 * 16, "handicaps": 25 * 12},
-        **{"komi": 16, "drawn": 11, "record": 3, "genmoves": 9, "games": 5, "restarts": 5},
+        **{"komi": 19, "drawn": 11, "record": 3, "genmoves": 9, "games": 5, "restarts": 5},
     }
     one_size = ("sizes", "handicaps")
     commands = 4 * 5 + 3 + sum(

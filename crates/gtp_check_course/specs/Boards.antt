@@ -1,20 +1,26 @@
 -- What each part of a lesson is asked on.
-use Rattle.std.specs.Prelude.{◌≡◌, ℕ, ◌+◌, ◌/◌, ◌%◌, nat_le, ◌&&◌, if◌then◌else◌, ℤ, pos}
+use Rattle.std.specs.Prelude.{◌≡◌, ℕ, ◌+◌, ◌-◌, ◌/◌, ◌%◌, nat_le, nat_lt, ◌&&◌, if◌then◌else◌, ℤ, pos}
 use Rattle.std.specs.Prelude.{slice_index_or, Option, None, Some, is_none}
 use Rattle.go_base.specs.Size.{most_size}
 use Rattle.gtp_check_course.specs.declared.lessons.Lesson.{Lesson}
-use Rattle.gtp_check_course.specs.declared.lessons.Lesson.TheVariants.{Start, Sizes, Handicaps, Drawn, Record}
+use Rattle.gtp_check_course.specs.declared.lessons.Lesson.TheVariants.{Start, Sizes, Handicaps, Komi, Drawn, Record}
 use Rattle.gtp_check_course.specs.declared.lessons.Lesson.TheVariants.{Genmoves, Games, Restarts}
 use Rattle.gtp_check_course.specs.declared.boards.Board.{Board}
-use Rattle.gtp_check_course.specs.declared.boards.TheConstants.{DRAWN, GAMES, GENMOVES, INEXACT_KOMIS, KOMIS, RECORD}
+use Rattle.gtp_check_course.specs.declared.boards.TheConstants.{DRAWN, GAMES, GENMOVES, HANDICAPPED, INEXACT_KOMIS}
+use Rattle.gtp_check_course.specs.declared.boards.TheConstants.{KOMIS, RECORD}
 use Rattle.gtp_check_course.specs.declared.scenes.TheConstants.{WAYS}
 use Rattle.gtp_check_course.specs.Scenes.{gaps_of, way_of, scene_of}
+
+-- the size of a part about komi: that of scenes for the sixteen komis, and then one that has handicaps
+abbrev pub komi_lines : ℕ → ℕ → ℕ
+komi_lines part scene_size = if nat_lt part 16 then scene_size else slice_index_or HANDICAPPED (part - 16) scene_size
 
 -- The size that a part asks for, where scenes are on boards of this size. After the sizes of a table comes that of
 -- scenes.
 abbrev pub lines_of : Lesson → ℕ → ℕ → ℕ
 lines_of Sizes part scene_size = part + 1
 lines_of Handicaps part scene_size = part / 12 + 1
+lines_of Komi part scene_size = komi_lines part scene_size
 lines_of Drawn part scene_size = slice_index_or DRAWN part scene_size
 lines_of Record part scene_size = slice_index_or RECORD part scene_size
 lines_of Genmoves part scene_size = slice_index_or GENMOVES part scene_size

@@ -1,6 +1,6 @@
 -- What the lessons of a course ask: how many parts each has, the stretches of each part, and whether its lines are sent
 -- in chunks. How a user names them.
-use Rattle.std.specs.Prelude.{ℕ, ◌==◌, Bool, false, if◌then◌else◌, List, [], map, slice_get, unwrap_or}
+use Rattle.std.specs.Prelude.{ℕ, ◌==◌, nat_lt, Bool, false, if◌then◌else◌, List, [], map, slice_get, unwrap_or}
 use Rattle.gtp_check_course.specs.declared.lessons.Lesson.{Lesson}
 use Rattle.gtp_check_course.specs.declared.lessons.Lesson.TheVariants.{Start, Placed, Errors, Sizes, Ko, Captures, Suicide, Joining}
 use Rattle.gtp_check_course.specs.declared.lessons.Lesson.TheVariants.{Handicaps, Komi, Drawn, Record, Genmoves}
@@ -10,7 +10,7 @@ use Rattle.gtp_check_course.specs.declared.errors.TheConstants.{REQUIRED, UNKNOW
 use Rattle.gtp_check_course.specs.declared.games.TheConstants.{RECORD, GENMOVES, GAMES, RESTARTS}
 use Rattle.gtp_check_course.specs.declared.lessons.TheConstants.{LESSON_NAMES, LESSONS}
 use Rattle.gtp_check_course.specs.declared.tables.TheConstants.{SCENE, KO, REFUSED, START, PIECES, IN_FULL, LIST, SIZES}
-use Rattle.gtp_check_course.specs.declared.tables.TheConstants.{PLACED, HANDICAPS, KOMI, DRAWN}
+use Rattle.gtp_check_course.specs.declared.tables.TheConstants.{PLACED, HANDICAPS, KOMI, KOMI_OF_HANDICAPS, DRAWN}
 
 -- all lessons, in the order of a course
 abbrev pub all_lessons : List Lesson
@@ -50,7 +50,7 @@ parts_of Captures = 128
 parts_of Suicide = 80
 parts_of Joining = 64
 parts_of Handicaps = 300
-parts_of Komi = 16
+parts_of Komi = 19
 parts_of Drawn = 11
 parts_of Record = 3
 parts_of Genmoves = 9
@@ -64,6 +64,10 @@ start_parts part =
     else if part == 2 then IN_FULL
     else if part == 3 then LIST
     else START
+
+-- the stretches of a part about komi: sixteen komis, and after them three sizes with a handicap
+abbrev pub komi_parts : ℕ → List Stretch
+komi_parts part = if nat_lt part 16 then KOMI else KOMI_OF_HANDICAPS
 
 -- the stretches of a part about errors
 abbrev pub errors_parts : ℕ → List Stretch
@@ -84,7 +88,7 @@ stretches_of Captures part = SCENE
 stretches_of Suicide part = REFUSED
 stretches_of Joining part = SCENE
 stretches_of Handicaps part = HANDICAPS
-stretches_of Komi part = KOMI
+stretches_of Komi part = komi_parts part
 stretches_of Drawn part = DRAWN
 stretches_of Record part = RECORD
 stretches_of Genmoves part = GENMOVES

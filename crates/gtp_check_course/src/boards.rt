@@ -1,7 +1,7 @@
 //! The boards, komis and scenes on which each part of a lesson is asked.
 ghost use Rattle.std.specs.Prelude.{◌≡◌, ◌+◌, ◌<◌, slice_index_or};
 ghost use Rattle.gtp_check_course.specs.Places.{most_parts};
-ghost use Rattle.gtp_check_course.specs.Boards.{IsBoard, lines_of, size_or, komi_of, stones_of};
+ghost use Rattle.gtp_check_course.specs.Boards.{IsBoard, komi_lines, lines_of, size_or, komi_of, stones_of};
 ghost use Rattle.gtp_check_course.specs.Boards.{inexact_komi_of, scene_size_or_least, turning_of};
 ghost use Rattle.gtp_check_course.specs.Scenes.{gaps_of, scene_of};
 
@@ -18,6 +18,9 @@ const GENMOVES: [u32; 8] = [5, 9, 1, 2, 3, 7, 13, 19];
 const RECORD: [u32; 2] = [9, 19];
 
 const GAMES: [u32; 4] = [9, 5, 13, 19];
+
+/// The board sizes on which komi is looked at after a handicap.
+const HANDICAPPED: [u32; 3] = [9, 13, 19];
 
 /// Komis in half points. A float of 32 bits represents each of them. The first ten are from -1000 to 1000 points:
 /// scores are compared with these. The others test that the engine accepts them, and that its scores can be read.
@@ -118,14 +121,25 @@ fn lines_of(lesson: Lesson, part: u32, scene_size: Size) -> u32
         | Lesson::Ko
         | Lesson::Captures
         | Lesson::Suicide
-        | Lesson::Joining
-        | Lesson::Komi => scene_size.get(),
+        | Lesson::Joining => scene_size.get(),
+        Lesson::Komi => komi_lines(part, scene_size),
         Lesson::Sizes => part + 1,
         Lesson::Handicaps => part / 12 + 1,
         Lesson::Drawn => entry_or(&DRAWN, part, scene_size),
         Lesson::Record => entry_or(&RECORD, part, scene_size),
         Lesson::Genmoves => entry_or(&GENMOVES, part, scene_size),
         Lesson::Games | Lesson::Restarts => entry_or(&GAMES, part, scene_size),
+    }
+}
+
+/// Returns the size of a part about komi: that of scenes for the sixteen komis, and then one that has handicaps.
+fn komi_lines(part: u32, scene_size: Size) -> u32
+    ensures { result ≡ komi_lines part scene_size }
+{
+    if part < 16 {
+        scene_size.get()
+    } else {
+        entry_or(&HANDICAPPED, part - 16, scene_size)
     }
 }
 

@@ -2,7 +2,7 @@
 ghost use Rattle.std.specs.Prelude.{◌≡◌, ◌≤◌, length, map};
 ghost use Rattle.gtp_check_course.specs.Places.{most_parts, most_stretches};
 ghost use Rattle.gtp_check_course.specs.Lessons.{is_in_pieces, name_of, number_of, parts_of};
-ghost use Rattle.gtp_check_course.specs.Lessons.{errors_parts, start_parts, stretches_of};
+ghost use Rattle.gtp_check_course.specs.Lessons.{errors_parts, komi_parts, start_parts, stretches_of};
 ghost use Rattle.gtp_check_course.specs.Scenes.{scenes_of};
 
 use crate::scenes::{CAPTURES, JOINING, KO, SUICIDE, Scene, WAYS};
@@ -42,7 +42,7 @@ pub enum Lesson {
     Joining,
     /// Each number of handicap stones on each size.
     Handicaps,
-    /// Komis, and the score of an empty board, also after captures were undone.
+    /// Komis, and the score of an empty board, also after captures were undone, and after a handicap.
     Komi,
     /// Random games on several sizes, with probes.
     Drawn,
@@ -138,7 +138,7 @@ impl Lesson {
             Lesson::Suicide => 5 * WAYS,
             Lesson::Joining => 4 * WAYS,
             Lesson::Handicaps => 300,
-            Lesson::Komi => 16,
+            Lesson::Komi => 19,
             Lesson::Drawn => 11,
             Lesson::Genmoves => 9,
             Lesson::Record => 3,
@@ -171,7 +171,7 @@ impl Lesson {
             Lesson::Captures | Lesson::Joining => &tables::SCENE,
             Lesson::Suicide => &tables::REFUSED,
             Lesson::Handicaps => &tables::HANDICAPS,
-            Lesson::Komi => &tables::KOMI,
+            Lesson::Komi => komi_parts(part),
             Lesson::Drawn => &tables::DRAWN,
             Lesson::Record => &games::RECORD,
             Lesson::Genmoves => &games::GENMOVES,
@@ -203,6 +203,18 @@ fn start_parts(part: u32) -> &'static [Stretch]
         2 => &tables::IN_FULL,
         3 => &tables::LIST,
         _ => &tables::START,
+    }
+}
+
+/// Returns what this part of the lesson about komi asks.
+fn komi_parts(part: u32) -> &'static [Stretch]
+    ensures stretches { result.now ≡ komi_parts part }
+    ensures few { length result.now ≤ most_stretches }
+{
+    if part < 16 {
+        &tables::KOMI
+    } else {
+        &tables::KOMI_OF_HANDICAPS
     }
 }
 

@@ -338,6 +338,32 @@ pub(crate) static KOMI: [Stretch; 43] = [
     Stretch::Score,
 ];
 
+/// The score of an empty board after a handicap, which leaves komi as it is, compared with one that was said three times
+/// before; and the same with another komi. (The standard's topics komi and fixed_handicap. A bug spoils a match.)
+pub(crate) static KOMI_OF_HANDICAPS: [Stretch; 21] = [
+    Stretch::Seek,
+    Stretch::Size,
+    Stretch::Taken,
+    Stretch::Komi,
+    Stretch::Clear,
+    Stretch::Score,
+    Stretch::Drawn(1),
+    Stretch::Clear,
+    Stretch::Score,
+    Stretch::Drawn(1),
+    Stretch::Clear,
+    Stretch::Score,
+    Stretch::Handicap,
+    Stretch::Clear,
+    Stretch::Score,
+    Stretch::OtherKomi,
+    Stretch::Handicap,
+    Stretch::Stars,
+    Stretch::Clear,
+    Stretch::Score,
+    Stretch::Clear,
+];
+
 /// A random game, with probes. It ends on a cleared board: an engine may refuse the next part's size during a game.
 pub(crate) static DRAWN: [Stretch; 9] = [
     Stretch::Seek,

@@ -92,7 +92,7 @@ fn a_board_is_emptied_by_as_many_undos_as_it_has_moves(rt: HostRuntime) {
 /// A float of 32 bits has 24 binary digits: it represents each number of half points up to 2^24, and no odd one beyond.
 #[test]
 fn each_komi_is_exact_in_32_bits_and_each_inexact_one_is_not(rt: HostRuntime) {
-    for part in 0..Lesson::Komi.parts() {
+    for part in 0..16 {
         let board = board(&rt, Lesson::Komi, part, 5);
         let half_points = board.komi.half_points().unsigned_abs();
         let most = if part < 10 { 2_000 } else { 16_777_216 };
@@ -104,9 +104,7 @@ fn each_komi_is_exact_in_32_bits_and_each_inexact_one_is_not(rt: HostRuntime) {
 
 #[test]
 fn sixteen_komis_are_asked_and_each_lesson_has_a_name_of_its_own(rt: HostRuntime) {
-    let parts = Lesson::Komi.parts();
-    assert_equal(&rt, parts, 16);
-    for part in 0..parts {
+    for part in 0..16 {
         for other in 0..part {
             let komi = board(&rt, Lesson::Komi, part, 5).komi;
             let another = board(&rt, Lesson::Komi, other, 5).komi;
@@ -118,6 +116,17 @@ fn sixteen_komis_are_asked_and_each_lesson_has_a_name_of_its_own(rt: HostRuntime
             let is_same = lesson.name() == another.name();
             assert_equal_for(&rt, (*lesson, *another), is_same, number == other);
         }
+    }
+}
+
+/// After the sixteen komis come three sizes that have handicaps, and as many stones as each may have.
+#[test]
+fn komi_is_looked_at_after_a_handicap_on_three_sizes(rt: HostRuntime) {
+    assert_equal(&rt, Lesson::Komi.parts(), 19);
+    for (part, lines, stones) in [(15, 5, 2), (16, 9, 3), (17, 13, 4), (18, 19, 2)] {
+        let board = board(&rt, Lesson::Komi, part, 5);
+        assert_equal_for(&rt, part, (board.size.get(), board.stones), (lines, stones));
+        assert_equal_for(&rt, part, board.komi == board.other_komi, false);
     }
 }
 
