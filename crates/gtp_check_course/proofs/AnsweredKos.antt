@@ -1,7 +1,7 @@
 -- In each part of the lesson of kos a move of the other colour is asked for right after the act.
 use Rattle.std.specs.Prelude.{◌==◌, ◌&&◌, ◌||◌, nat_le, if◌then◌else◌}
 use Rattle.std.proofs.Common.{◌≡◌, ℕ, Bool, true, false, ◌+◌, ◌-◌, ◌*◌, ◌/◌, ◌%◌, ◌<◌, ◌≤◌, refl, sym, ap, arith, ◌∙◌, subst}
-use Rattle.std.proofs.Common.{Option, None, Some, ◌⊎◌, inl, inr}
+use Rattle.std.proofs.Common.{Some, ◌⊎◌, inl, inr}
 use Rattle.std.proofs.lemmas.Bool.Decides.{nat_tests}
 use Rattle.std.proofs.lemmas.Nat.{div-mul-add, mod-mul-add, mul-add-lt}
 use Rattle.go_base.specs.declared.colours.Colour.{Colour}
@@ -12,7 +12,6 @@ use Rattle.gtp_check_course.specs.declared.stretches.Stretch.TheVariants as stre
 use Rattle.gtp_check_course.specs.Laws.{AsksAt, AsksInTurn, EachKoIsAnswered, Fills, Seals, StaysEmpty, fills}
 use Rattle.gtp_check_course.specs.Questions.{act_asked, answer_asked, is_left_empty, last_of, sealed_asked}
 use Rattle.gtp_check_course.specs.declared.lessons.Lesson.TheVariants as lesson
-use Rattle.gtp_check_course.specs.Scenes.{scenes_of}
 use Rattle.gtp_check_course.proofs.ClearedBoard.{ko_short, plays, short_board}
 
 -- ---- what stays empty
@@ -136,16 +135,16 @@ module _ (board : Board) (act : Colour × ℕ × ℕ) where
     seals : board.size ≤ 25 → Seals stretch.Sealed board act
     seals most = record { all = fills_crossing most; only = fills_step }
 
--- ---- the six stretches
+-- ---- the seven stretches
 
 pub each_ko : EachKoIsAnswered
 each_ko part board act scene least most is = record {
-  number = 41;
+  number = 43;
   clears = AsksInTurn.next stretch.Clear refl (record { within = omega arith; is = λ draws game. refl })
-      AsksInTurn.none;
+      (AsksInTurn.next stretch.Given refl (record { within = omega arith; is = λ draws game. refl }) AsksInTurn.none);
   moves = stretch.Moves;
   has_moves = refl;
-  plays_each = plays board (short_board (scenes_of lesson.Ko) part board ko_short scene);
+  plays_each = plays board (short_board lesson.Ko part board ko_short scene);
   takes_back = AsksInTurn.next stretch.Undo refl (record { within = omega arith; is = λ draws game. refl })
       AsksInTurn.none;
   seal = stretch.Sealed;

@@ -1,14 +1,14 @@
 -- A stretch plays the moves of its board's scene, each at its step.
-use Rattle.std.proofs.Common.{◌≡◌, ℕ, zero, suc, ◌/◌, ◌<◌, ◌≤◌, sym, ap, arith, rules, List, [], ◌∷◌, length, slice_get}
+use Rattle.std.proofs.Common.{◌≡◌, ℕ, zero, suc, ◌<◌, ◌≤◌, sym, ap, arith, rules, List, [], ◌∷◌, length, slice_get}
 use Rattle.std.proofs.Common.{Some}
 use Rattle.go_base.specs.declared.colours.Colour.{Colour}
 use Rattle.gtp_check_course.specs.declared.boards.Board.{Board}
+use Rattle.gtp_check_course.specs.declared.lessons.Lesson.{Lesson}
 use Rattle.gtp_check_course.specs.declared.lessons.Lesson.TheVariants as lesson
-use Rattle.gtp_check_course.specs.declared.scenes.TheConstants.{WAYS}
 use Rattle.gtp_check_course.specs.declared.stretches.Stretch.TheVariants as stretch
 use Rattle.gtp_check_course.specs.Laws.{PlaysEachMove}
 use Rattle.gtp_check_course.specs.Questions.{act_asked}
-use Rattle.gtp_check_course.specs.Scenes.{Acts, acts_if, scenes_of}
+use Rattle.gtp_check_course.specs.Scenes.{Acts, acts_if, scene_number, scene_of, scenes_of}
 
 -- no scene has more moves than a stretch of moves has steps
 abbrev pub AreShort : List Acts → Type 0
@@ -34,10 +34,10 @@ module _ (board : Board) (short : length board.scene.now ≤ 12) where
   }
 
 -- a board of a part has no more moves either
-pub short_board : (scenes : List Acts) (part : ℕ) (board : Board) → AreShort scenes
-    → board.scene.now ≡ acts_if (slice_get scenes (part / WAYS)) → length board.scene.now ≤ 12
-short_board scenes part board short is =
-    let few = short_at scenes (part / WAYS) short in omega (arith, ap length is)
+pub short_board : (lesson : Lesson) (part : ℕ) (board : Board) → AreShort (scenes_of lesson)
+    → board.scene.now ≡ scene_of lesson part → length board.scene.now ≤ 12
+short_board lesson part board short is =
+    let few = short_at (scenes_of lesson) (scene_number lesson part) short in omega (arith, ap length is)
 
 pub ko_short : AreShort (scenes_of lesson.Ko)
 ko_short = search rules

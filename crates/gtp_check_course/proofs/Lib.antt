@@ -6,3 +6,4 @@ pub mod ClearedBoard
 pub mod NoSuicide
 pub mod AnsweredKos
 pub mod PosedQuestions
+pub mod AskedScenes

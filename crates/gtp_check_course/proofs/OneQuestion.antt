@@ -109,6 +109,7 @@ of_board lesson part known stretch step board other game question is is' asked =
       stones = board.stones;
       gaps = board.gaps;
       way = board.way;
+      has_handicap = board.has_handicap;
     })) (is.komi ∙ sym is'.komi) b4 in
     let b5' = subst (λ k. Asked (record other {
       inexact_komi = k;
@@ -116,18 +117,27 @@ of_board lesson part known stretch step board other game question is is' asked =
       stones = board.stones;
       gaps = board.gaps;
       way = board.way;
+      has_handicap = board.has_handicap;
     })) (is.inexact_komi ∙ sym is'.inexact_komi) b5 in
     let b6 = subst (λ k. Asked (record other {
       other_komi = k;
       stones = board.stones;
       gaps = board.gaps;
       way = board.way;
+      has_handicap = board.has_handicap;
     }))
     (is.other_komi ∙ sym is'.other_komi) b5' in
-    let b7 = subst (λ n. Asked (record other { stones = n; gaps = board.gaps; way = board.way }))
-    (is.stones ∙ sym is'.stones) b6 in
-    let b8 = subst (λ g. Asked (record other { gaps = g; way = board.way })) (is.gaps ∙ sym is'.gaps) b7 in
-    subst (λ w. Asked (record other { way = w })) (is.way ∙ sym is'.way) b8
+    let b7 = subst (λ n. Asked (record other {
+      stones = n;
+      gaps = board.gaps;
+      way = board.way;
+      has_handicap = board.has_handicap;
+    })) (is.stones ∙ sym is'.stones) b6 in
+    let b8 = subst (λ g. Asked (record other { gaps = g; way = board.way; has_handicap = board.has_handicap }))
+    (is.gaps ∙ sym is'.gaps) b7 in
+    let b9 = subst (λ w. Asked (record other { way = w; has_handicap = board.has_handicap }))
+    (is.way ∙ sym is'.way) b8 in
+    subst (λ b. Asked (record other { has_handicap = b })) (is.has_handicap ∙ sym is'.has_handicap) b9
 
 pub one_step : (lesson : Lesson) (course : Course) (game : GameRecord) (stretch : Option Stretch)
     (one another : Question) → IsStepOf lesson course game stretch one → IsStepOf lesson course game stretch another

@@ -1,15 +1,21 @@
 -- What each part of a lesson is asked on.
 use Rattle.std.specs.Prelude.{◌≡◌, ℕ, ◌+◌, ◌-◌, ◌/◌, ◌%◌, nat_le, nat_lt, ◌&&◌, if◌then◌else◌, ℤ, pos}
-use Rattle.std.specs.Prelude.{slice_index_or, Option, None, Some, is_none}
+use Rattle.std.specs.Prelude.{max, slice_index_or, Option, None, Some, is_none}
 use Rattle.go_base.specs.Size.{most_size}
 use Rattle.gtp_check_course.specs.declared.lessons.Lesson.{Lesson}
 use Rattle.gtp_check_course.specs.declared.lessons.Lesson.TheVariants.{Start, Sizes, Handicaps, Komi, Drawn, Record}
 use Rattle.gtp_check_course.specs.declared.lessons.Lesson.TheVariants.{Genmoves, Games, Restarts}
+use Rattle.gtp_check_course.specs.declared.lessons.Lesson.TheVariants.{Ko, Captures, Suicide, Joining}
 use Rattle.gtp_check_course.specs.declared.boards.Board.{Board}
 use Rattle.gtp_check_course.specs.declared.boards.TheConstants.{DRAWN, GAMES, GENMOVES, HANDICAPPED, INEXACT_KOMIS}
 use Rattle.gtp_check_course.specs.declared.boards.TheConstants.{KOMIS, RECORD}
-use Rattle.gtp_check_course.specs.declared.scenes.TheConstants.{WAYS}
-use Rattle.gtp_check_course.specs.Scenes.{gaps_of, way_of, scene_of}
+use Rattle.gtp_check_course.specs.declared.scenes.TheConstants.{FREE_WAYS, WAYS}
+use Rattle.gtp_check_course.specs.Scenes.{gaps_of, has_handicap, way_of, scene_of}
+
+-- The size of the board of a part's scene. With a handicap it is at least 9: there no stone of the handicap is in the
+-- scene's corner of five lines.
+abbrev pub lines_of_scene : Lesson → ℕ → ℕ → ℕ
+lines_of_scene lesson part scene_size = if has_handicap lesson part then max scene_size 9 else scene_size
 
 -- the size of a part about komi: that of scenes for the sixteen komis, and then one that has handicaps
 abbrev pub komi_lines : ℕ → ℕ → ℕ
@@ -26,6 +32,10 @@ lines_of Record part scene_size = slice_index_or RECORD part scene_size
 lines_of Genmoves part scene_size = slice_index_or GENMOVES part scene_size
 lines_of Games part scene_size = slice_index_or GAMES part scene_size
 lines_of Restarts part scene_size = slice_index_or GAMES part scene_size
+lines_of Ko part scene_size = lines_of_scene Ko part scene_size
+lines_of Captures part scene_size = lines_of_scene Captures part scene_size
+lines_of Suicide part scene_size = lines_of_scene Suicide part scene_size
+lines_of Joining part scene_size = lines_of_scene Joining part scene_size
 lines_of _ part scene_size = scene_size
 
 -- this size, or the other where it is none
@@ -46,10 +56,12 @@ stones_of Handicaps part = part % 12
 stones_of _ part = 2 + part % 3
 
 -- In which of the ways a part is turned. Those of the start are not: so what they ask in chunks, or with colours in
--- full, was asked before in the usual form.
+-- full, was asked before in the usual form. After a handicap it is one of the ways that keep away from its stones.
 abbrev pub turning_of : Lesson → ℕ → ℕ
 turning_of Start part = 0
-turning_of _ part = part % WAYS
+turning_of lesson part =
+    if has_handicap lesson part then slice_index_or FREE_WAYS (part % 4) 0
+    else part % WAYS
 
 -- the size of the boards of scenes: the one that is known, or the smallest
 abbrev pub scene_size_or_least : Option ℕ → ℕ
@@ -66,5 +78,6 @@ pub record IsBoard (lesson : Lesson) (part : ℕ) (known : Option ℕ) (board : 
   pub inexact_komi : board.inexact_komi ≡ inexact_komi_of part
   pub stones : board.stones ≡ stones_of lesson part
   pub scene : board.scene.now ≡ scene_of lesson part
-  pub gaps : board.gaps ≡ gaps_of part
+  pub gaps : board.gaps ≡ gaps_of lesson part
   pub way : board.way ≡ way_of (turning_of lesson part)
+  pub has_handicap : board.has_handicap ≡ has_handicap lesson part

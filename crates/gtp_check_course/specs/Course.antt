@@ -1,6 +1,6 @@
 -- A course: its lessons, where it is in them, and what a call of it is.
-use Rattle.std.specs.Prelude.{◌≡◌, ℕ, ◌+◌, ◌<◌, ◌≤◌, min, nat_lt, ◌⊎◌, Bool, true, false, ◌&&◌, if◌then◌else◌}
-use Rattle.std.specs.Prelude.{List, [], length, slice_get, Option, None}
+use Rattle.std.specs.Prelude.{◌≡◌, ℕ, ◌+◌, ◌<◌, ◌≤◌, min, nat_lt, ◌⊎◌, Bool, false, ◌&&◌, if◌then◌else◌}
+use Rattle.std.specs.Prelude.{List, [], length, slice_get, Option}
 use Rattle.go_board.specs.Game.{GameRecord}
 use Rattle.go_board.specs.Refusals.{RefusesVertex}
 use Rattle.go_board.specs.declared.faults.PlayFault.TheVariants.{Suicide as SuicideFault}

@@ -1,8 +1,10 @@
 -- What holds of every course.
 use Rattle.std.specs.Prelude.{Bool, ◌≡◌, ℕ, ◌+◌, ◌*◌, ◌<◌, ◌≤◌, List, [], ◌∷◌, length, slice_get, Option, Some}
+use Rattle.go_base.specs.Handicap.{AllowsHandicap}
 use Rattle.go_base.specs.Colour.{other}
 use Rattle.go_base.specs.Size.{most_size}
 use Rattle.go_base.specs.declared.colours.Colour.{Colour}
+use Rattle.go_base.specs.declared.colours.Colour.TheVariants.{Black, White}
 use Rattle.go_base.specs.declared.moves.Move.{Move}
 use Rattle.go_board.specs.Game.{GameRecord}
 use Rattle.go_board.specs.Refusals.{RefusesVertex}
@@ -23,9 +25,10 @@ use Rattle.gtp_check_course.specs.declared.stretches.Stretch.{Stretch}
 use Rattle.gtp_check_course.specs.declared.suicides.Suicide.{Suicide}
 use Rattle.gtp_check_course.specs.declared.suicides.Suicide.TheVariants.{Unasked}
 use Rattle.gtp_check_course.specs.Course.{Course, GoesTo, IsIn, Leaves, begun, with_finding}
-use Rattle.gtp_check_course.specs.Lessons.{stretches_of}
-use Rattle.gtp_check_course.specs.Questions.{IsQuestion, asks, last_of}
-use Rattle.gtp_check_course.specs.Scenes.{scene_of, turned_act, turned_colour}
+use Rattle.gtp_check_course.specs.Boards.{IsBoard}
+use Rattle.gtp_check_course.specs.Lessons.{parts_of, stretches_of}
+use Rattle.gtp_check_course.specs.Questions.{IsQuestion, asks, given_asked, last_of, probes}
+use Rattle.gtp_check_course.specs.Scenes.{Acts, scene_of, scenes_of, turned, turned_act, turned_colour}
 use Rattle.gtp_check_course.specs.Stretches.{steps_of}
 
 -- ---- a course is bounded
@@ -101,6 +104,49 @@ pub data AsksInTurn (lesson : Lesson) (part : ℕ) (board : Board) : ℕ → Lis
       → slice_get (stretches_of lesson part) number ≡ Some stretch → AsksAt stretch board 0 question
       → AsksInTurn lesson part board (number + 1) later → AsksInTurn lesson part board number (question ∷ later)
 
+-- ---- each rule is asked after a handicap
+
+-- The stretch probes the point of each move of the board's scene, for Black and then for White.
+abbrev pub ProbesEachMove : Stretch → Board → Type 0
+ProbesEachMove stretch board = (number : ℕ) (act : Colour × ℕ × ℕ) → slice_get board.scene.now number ≡ Some act
+    → AsksAt stretch board (number * 2) (probes Black (turned board.way act.1 act.2 board.size))
+    × AsksAt stretch board (number * 2 + 1) (probes White (turned board.way act.1 act.2 board.size))
+
+-- Four stretches of the part come one right after the other. The board is cleared, and the game begins so, which its
+-- size allows; the moves of the scene are asked; and the points of these moves are probed in both colours: a play on a
+-- stone, where stones are or were taken, and where a play is ko or suicide.
+pub record AsksScene (lesson : Lesson) (part : ℕ) (begins : Question) (Allows : ℕ → Type 0) (board : Board) : Type 0 where
+  pub allowed : Allows board.size
+  pub number : ℕ
+  pub clears : AsksInTurn lesson part board number (asks command.ClearBoard ∷ begins ∷ [])
+  pub moves : Stretch
+  pub has_moves : slice_get (stretches_of lesson part) (number + 2) ≡ Some moves
+  pub plays_each : PlaysEachMove moves board
+  pub own : Stretch
+  pub has_own : slice_get (stretches_of lesson part) (number + 3) ≡ Some own
+  pub probes_each : ProbesEachMove own board
+
+-- A part of the lesson asks this scene in a game that begins so.
+pub record HasPart (lesson : Lesson) (acts : Acts) (begins : Question) (Allows : ℕ → Type 0) : Type 0 where
+  pub part : ℕ
+  pub within : part < parts_of lesson
+  pub is_scene : scene_of lesson part ≡ acts
+  pub asks_scene : (known : Option ℕ) (board : Board) → IsBoard lesson part known board
+      → AsksScene lesson part begins Allows board
+
+-- Each scene of the lesson is asked in an even game, and in one that begins with two handicap stones.
+abbrev pub IsAskedInBoth : Lesson → Type 0
+IsAskedInBoth lesson = (number : ℕ) (acts : Acts) → slice_get (scenes_of lesson) number ≡ Some acts
+    → HasPart lesson acts Nothing (λ size. Unit {0})
+    × HasPart lesson acts (asks (command.FixedHandicap 2)) (λ size. AllowsHandicap size 2)
+
+-- Each rule that a scene is about is asked in games with a handicap and without one.
+pub record EachRuleIsAskedInBoth : Type 0 where
+  pub ko : IsAskedInBoth lesson.Ko
+  pub captures : IsAskedInBoth lesson.Captures
+  pub suicide : IsAskedInBoth lesson.Suicide
+  pub joining : IsAskedInBoth lesson.Joining
+
 -- ---- each ko is answered
 
 -- The crossing stays empty, where the colour of this act has the rest of the board: it is that of the act, one of the
@@ -128,24 +174,25 @@ pub record Seals (stretch : Stretch) (board : Board) (act : Colour × ℕ × ℕ
       → (step : ℕ) × AsksAt stretch board step (fills board act column row)
   pub only : (step : ℕ) → step < steps_of stretch → Fills stretch board act step
 
--- Six stretches of the part come one right after the other. The board is cleared; the moves of the scene are asked, and
--- the last of them, the act, is taken back; the act's colour fills the board; it acts, and nothing else is asked; and
--- the engine is asked for a move of the other colour.
+-- Seven stretches of the part come one right after the other. The board is cleared; a handicap is asked for, if the
+-- game begins with one; the moves of the scene are asked, and the last of them, the act, is taken back; the act's colour
+-- fills the board; it acts, and nothing else is asked; and the engine is asked for a move of the other colour.
 pub record AsksForAnswer (lesson : Lesson) (part : ℕ) (board : Board) (act : Colour × ℕ × ℕ) : Type 0 where
   pub number : ℕ
-  pub clears : AsksInTurn lesson part board number (asks command.ClearBoard ∷ [])
+  pub clears : AsksInTurn lesson part board number
+      (asks command.ClearBoard ∷ given_asked board.has_handicap ∷ [])
   pub moves : Stretch
-  pub has_moves : slice_get (stretches_of lesson part) (number + 1) ≡ Some moves
+  pub has_moves : slice_get (stretches_of lesson part) (number + 2) ≡ Some moves
   pub plays_each : PlaysEachMove moves board
-  pub takes_back : AsksInTurn lesson part board (number + 2) (asks command.Undo ∷ [])
+  pub takes_back : AsksInTurn lesson part board (number + 3) (asks command.Undo ∷ [])
   pub seal : Stretch
-  pub has_seal : slice_get (stretches_of lesson part) (number + 3) ≡ Some seal
+  pub has_seal : slice_get (stretches_of lesson part) (number + 4) ≡ Some seal
   pub seals : Seals seal board act
   pub acts : Stretch
-  pub has_acts : slice_get (stretches_of lesson part) (number + 4) ≡ Some acts
+  pub has_acts : slice_get (stretches_of lesson part) (number + 5) ≡ Some acts
   pub alone : steps_of acts ≡ 1
   pub plays : AsksAt acts board 0 (asks (command.Play (turned_act board.way act board.size)))
-  pub answers : AsksInTurn lesson part board (number + 5)
+  pub answers : AsksInTurn lesson part board (number + 6)
       (asks (command.Genmove (other (turned_colour board.way act.0))) ∷ [])
 
 -- In each part of the lesson of kos a move of the other colour is asked for right after the act, which is the last

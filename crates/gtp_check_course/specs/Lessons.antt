@@ -38,17 +38,17 @@ number_of Restarts = 14
 abbrev pub name_of : Lesson → List ℕ
 name_of lesson = unwrap_or (slice_get (map (λ name. name.now) LESSON_NAMES) (number_of lesson)) []
 
--- the parts: four of the start, the second in chunks; one; four; each size; each scene in its sixteen ways; each size with each
--- number of handicap stones up to 11; and so on
+-- the parts: four of the start, the second in chunks; one; four; each size; each scene in its sixteen ways, and in four
+-- of them after a handicap; each size with each number of handicap stones up to 11; and so on
 abbrev pub parts_of : Lesson → ℕ
 parts_of Start = 4
 parts_of Placed = 1
 parts_of Errors = 4
 parts_of Sizes = 25
-parts_of Ko = 96
-parts_of Captures = 128
-parts_of Suicide = 80
-parts_of Joining = 64
+parts_of Ko = 120
+parts_of Captures = 160
+parts_of Suicide = 100
+parts_of Joining = 80
 parts_of Handicaps = 300
 parts_of Komi = 19
 parts_of Drawn = 11
@@ -56,6 +56,14 @@ parts_of Record = 3
 parts_of Genmoves = 9
 parts_of Games = 5
 parts_of Restarts = 5
+
+-- how many of them, the first ones, have even games; the games of the others begin with a handicap
+abbrev pub even_parts : Lesson → ℕ
+even_parts Ko = 96
+even_parts Captures = 128
+even_parts Suicide = 80
+even_parts Joining = 64
+even_parts lesson = parts_of lesson
 
 -- the stretches of a part of the start
 abbrev pub start_parts : ℕ → List Stretch

@@ -1,6 +1,6 @@
 -- What a step of a lesson asks.
 use Rattle.std.specs.Prelude.{◌≡◌, ◌≢◌, ℕ, ◌+◌, ◌-◌, ◌*◌, ◌/◌, ◌%◌, ◌==◌, nat_le, nat_lt, ◌||◌, ◌&&◌, if◌then◌else◌}
-use Rattle.std.specs.Prelude.{Bool, not, min, ◌<◌, List, [], length, slice_get, Option, None, Some}
+use Rattle.std.specs.Prelude.{Bool, true, false, not, min, ◌<◌, List, [], length, slice_get, Option, None, Some}
 use Rattle.rand_pcg.specs.Lcg.{Lcg}
 use Rattle.go_base.specs.Colour.{other}
 use Rattle.go_base.specs.Handicap.{handicap_points}
@@ -44,6 +44,11 @@ abbrev pub colour_of : ℕ → Colour
 colour_of number = if number % 2 == 0 then Black else White
 
 -- ---- scenes
+
+-- two handicap stones, if the games of the scene begin with them
+abbrev pub given_asked : Bool → Question
+given_asked true = asks (command.FixedHandicap 2)
+given_asked false = Nothing
 
 abbrev pub last_of : Acts → Option (Colour × ℕ × ℕ)
 last_of acts = slice_get acts (length acts - 1)
@@ -342,6 +347,7 @@ IsQuestion stretch.Komi step board game question = question ≡ asks (command.Ko
 IsQuestion stretch.OtherKomi step board game question = question ≡ asks (command.Komi board.other_komi)
 IsQuestion stretch.Inexact step board game question = question ≡ asks (command.Komi board.inexact_komi)
 IsQuestion stretch.Clear step board game question = question ≡ asks command.ClearBoard
+IsQuestion stretch.Given step board game question = question ≡ given_asked board.has_handicap
 IsQuestion stretch.Moves step board game question = question ≡ act_asked board (slice_get board.scene.now step.number)
 IsQuestion stretch.MovesInFull step board game question =
     question ≡ act_in_full board (slice_get board.scene.now step.number)

@@ -13,6 +13,7 @@ use Rattle.gtp_check_course.specs.declared.lessons.Lesson.TheVariants.{Captures,
 use Rattle.gtp_check_course.specs.declared.scenes.Gaps.{Gaps}
 use Rattle.gtp_check_course.specs.declared.scenes.TheConstants.{CAPTURES, JOINING, KO, KO_GAPS, SUICIDE, WAYS}
 use Rattle.gtp_check_course.specs.declared.scenes.Way.{Way}
+use Rattle.gtp_check_course.specs.Lessons.{even_parts}
 
 -- the vertex where a column and a row cross; a pass where there is none
 abbrev pub crossing : ℕ → ℕ → Vertex
@@ -68,10 +69,22 @@ abbrev pub acts_if : Option Acts → Acts
 acts_if None = []
 acts_if (Some acts) = acts
 
+-- whether the games of a part's scene begin with a handicap of two stones
+abbrev pub has_handicap : Lesson → ℕ → Bool
+has_handicap lesson part = nat_le (even_parts lesson) part
+
+-- The number of the scene of a part. Each has sixteen parts in even games, and after all of these come four parts of
+-- each with a handicap.
+abbrev pub scene_number : Lesson → ℕ → ℕ
+scene_number lesson part =
+    if has_handicap lesson part then (part - even_parts lesson) / 4
+    else part / WAYS
+
 -- the scene of a part
 abbrev pub scene_of : Lesson → ℕ → Acts
-scene_of lesson part = acts_if (slice_get (scenes_of lesson) (part / WAYS))
+scene_of lesson part = acts_if (slice_get (scenes_of lesson) (scene_number lesson part))
 
 -- the gaps of a part
-abbrev pub gaps_of : ℕ → Gaps
-gaps_of part = slice_index_or KO_GAPS (part / WAYS) (record { first = (1, 3); second = (1, 3) })
+abbrev pub gaps_of : Lesson → ℕ → Gaps
+gaps_of lesson part =
+    slice_index_or KO_GAPS (scene_number lesson part) (record { first = (1, 3); second = (1, 3) })

@@ -3,10 +3,11 @@ ghost use Rattle.std.specs.Prelude.{◌≡◌, ◌+◌, ◌<◌, slice_index_or}
 ghost use Rattle.gtp_check_course.specs.Places.{most_parts};
 ghost use Rattle.gtp_check_course.specs.Boards.{IsBoard, komi_lines, lines_of, size_or, komi_of, stones_of};
 ghost use Rattle.gtp_check_course.specs.Boards.{inexact_komi_of, scene_size_or_least, turning_of};
-ghost use Rattle.gtp_check_course.specs.Scenes.{gaps_of, scene_of};
+ghost use Rattle.gtp_check_course.specs.Boards.{lines_of_scene};
+ghost use Rattle.gtp_check_course.specs.Scenes.{gaps_of, has_handicap, scene_number, scene_of};
 
 use crate::lessons::Lesson;
-use crate::scenes::{Gaps, KO_GAPS, Scene, WAYS, Way};
+use crate::scenes::{FREE_WAYS, Gaps, KO_GAPS, Scene, WAYS, Way};
 use go_base::{Komi, Size};
 
 /// The board sizes of the random games, of the games with moves of the engine's own, of the long records, and of the
@@ -55,6 +56,8 @@ pub struct Board {
     pub gaps: Gaps,
     /// How the scene is turned.
     pub way: Way,
+    /// Whether the games of the scene begin with a handicap of two stones.
+    pub has_handicap: bool,
 }
 
 /// Returns what a part of a lesson is asked on, with scenes on boards of this size, or of the smallest size if none is
@@ -73,8 +76,9 @@ pub fn board_of(lesson: Lesson, part: u32, known: Option<Size>) -> Board
         inexact_komi: inexact_komi_of(part),
         stones: stones_of(lesson, part),
         scene: scene_of(lesson, part),
-        gaps: gaps_of(part),
+        gaps: gaps_of(lesson, part),
         way: Way::of(turning_of(lesson, part)),
+        has_handicap: has_handicap(lesson, part),
     }
 }
 
@@ -85,7 +89,26 @@ fn turning_of(lesson: Lesson, part: u32) -> u32
 {
     match lesson {
         Lesson::Start => 0,
+        _ if has_handicap(lesson, part) => FREE_WAYS[(part % 4) as usize],
         _ => part % WAYS,
+    }
+}
+
+/// Returns whether the games of a part's scene begin with a handicap.
+fn has_handicap(lesson: Lesson, part: u32) -> bool
+    ensures { result ≡ has_handicap lesson part }
+{
+    part >= lesson.even_parts()
+}
+
+/// Returns the number of the scene of a part among those of the lesson.
+fn scene_number(lesson: Lesson, part: u32) -> u32
+    ensures { result ≡ scene_number lesson part }
+{
+    if has_handicap(lesson, part) {
+        (part - lesson.even_parts()) / 4
+    } else {
+        part / WAYS
     }
 }
 
@@ -115,13 +138,10 @@ fn lines_of(lesson: Lesson, part: u32, scene_size: Size) -> u32
     ensures { result ≡ lines_of lesson part scene_size }
 {
     match lesson {
-        Lesson::Start
-        | Lesson::Placed
-        | Lesson::Errors
-        | Lesson::Ko
-        | Lesson::Captures
-        | Lesson::Suicide
-        | Lesson::Joining => scene_size.get(),
+        Lesson::Start | Lesson::Placed | Lesson::Errors => scene_size.get(),
+        Lesson::Ko | Lesson::Captures | Lesson::Suicide | Lesson::Joining => {
+            lines_of_scene(lesson, part, scene_size)
+        }
         Lesson::Komi => komi_lines(part, scene_size),
         Lesson::Sizes => part + 1,
         Lesson::Handicaps => part / 12 + 1,
@@ -140,6 +160,18 @@ fn komi_lines(part: u32, scene_size: Size) -> u32
         scene_size.get()
     } else {
         entry_or(&HANDICAPPED, part - 16, scene_size)
+    }
+}
+
+/// Returns the size of the board of a part's scene. With a handicap it has at least nine lines: there the stones of the
+/// handicap are not in the scene's corner.
+fn lines_of_scene(lesson: Lesson, part: u32, scene_size: Size) -> u32
+    ensures { result ≡ lines_of_scene lesson part scene_size }
+{
+    if has_handicap(lesson, part) {
+        scene_size.get().max(9)
+    } else {
+        scene_size.get()
     }
 }
 
@@ -197,17 +229,17 @@ fn stones_of(lesson: Lesson, part: u32) -> u32
 fn scene_of(lesson: Lesson, part: u32) -> Scene
     ensures { result.now ≡ scene_of lesson part }
 {
-    match lesson.scenes().get((part / WAYS) as usize) {
+    match lesson.scenes().get(scene_number(lesson, part) as usize) {
         Some(scene) => *scene,
         None => &[],
     }
 }
 
 /// Returns what stays empty beside the ko of a part.
-fn gaps_of(part: u32) -> Gaps
-    ensures { result ≡ gaps_of part }
+fn gaps_of(lesson: Lesson, part: u32) -> Gaps
+    ensures { result ≡ gaps_of lesson part }
 {
-    match KO_GAPS.get((part / WAYS) as usize) {
+    match KO_GAPS.get(scene_number(lesson, part) as usize) {
         Some(gaps) => *gaps,
         None => Gaps {
             first: (1, 3),

@@ -1,5 +1,6 @@
 //! Laws of the course. Each is the contract of a function that does nothing.
 ghost use Rattle.gtp_check_course.specs.Laws.{EveryCourseIsBounded, EachKoIsAnswered, NoSuicideIsAsked};
+ghost use Rattle.gtp_check_course.specs.Laws.{EachRuleIsAskedInBoth};
 ghost use Rattle.gtp_check_course.specs.Posing.{EachQuestionIsAsked};
 
 /// Whatever is answered, and whenever a part is left: the commands that are asked, the steps that are passed over and
@@ -18,6 +19,13 @@ pub fn each_question_is_asked()
 /// If suicide isn't asked, no `play` that is asked is one in the examiner's game, however its colour is written.
 pub fn no_suicide_is_asked()
     ensures { NoSuicideIsAsked }
+{}
+
+/// Each scene of the lessons `ko`, `captures`, `suicide` and `joining` is asked in a game without a handicap, and in one
+/// that begins with two handicap stones, on a board that allows them. Right after that come the moves of the scene, and
+/// then a play of each colour on the point of each of them.
+pub fn each_rule_is_asked_in_both()
+    ensures { EachRuleIsAskedInBoth }
 {}
 
 /// In each part of the lesson `ko` the board is cleared, the moves of the scene are asked, and the last of them, the

@@ -1,7 +1,7 @@
 //! The lessons of a course.
 ghost use Rattle.std.specs.Prelude.{◌≡◌, ◌≤◌, length, map};
 ghost use Rattle.gtp_check_course.specs.Places.{most_parts, most_stretches};
-ghost use Rattle.gtp_check_course.specs.Lessons.{is_in_pieces, name_of, number_of, parts_of};
+ghost use Rattle.gtp_check_course.specs.Lessons.{even_parts, is_in_pieces, name_of, number_of, parts_of};
 ghost use Rattle.gtp_check_course.specs.Lessons.{errors_parts, komi_parts, start_parts, stretches_of};
 ghost use Rattle.gtp_check_course.specs.Scenes.{scenes_of};
 
@@ -12,6 +12,9 @@ use arrayvec::ArrayVec;
 
 /// How many lessons there are.
 const ALL: usize = 15;
+
+/// How many parts each scene has: in an even game all ways, and after a handicap the free ones.
+const PARTS_OF_SCENE: u32 = 20;
 
 /// The lessons of a course, in their order.
 pub type Lessons = ArrayVec<Lesson, ALL>;
@@ -133,16 +136,29 @@ impl Lesson {
             Lesson::Placed => 1,
             Lesson::Errors => 4,
             Lesson::Sizes => 25,
-            Lesson::Ko => 6 * WAYS,
-            Lesson::Captures => 8 * WAYS,
-            Lesson::Suicide => 5 * WAYS,
-            Lesson::Joining => 4 * WAYS,
+            Lesson::Ko => 6 * PARTS_OF_SCENE,
+            Lesson::Captures => 8 * PARTS_OF_SCENE,
+            Lesson::Suicide => 5 * PARTS_OF_SCENE,
+            Lesson::Joining => 4 * PARTS_OF_SCENE,
             Lesson::Handicaps => 300,
             Lesson::Komi => 19,
             Lesson::Drawn => 11,
             Lesson::Genmoves => 9,
             Lesson::Record => 3,
             Lesson::Games | Lesson::Restarts => 5,
+        }
+    }
+
+    /// Returns how many of its parts, the first ones, have even games. The games of the others begin with a handicap.
+    pub(crate) fn even_parts(self) -> u32
+        ensures { result ≡ even_parts self }
+    {
+        match self {
+            Lesson::Ko => 6 * WAYS,
+            Lesson::Captures => 8 * WAYS,
+            Lesson::Suicide => 5 * WAYS,
+            Lesson::Joining => 4 * WAYS,
+            _ => self.parts(),
         }
     }
 

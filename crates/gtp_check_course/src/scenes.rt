@@ -9,6 +9,10 @@ use go_base::{Move, Point, Size, Vertex};
 /// The ways in which a scene is asked: the eight symmetries of a board, in both colours.
 pub const WAYS: u32 = 16;
 
+/// The ways in which a scene is asked after a handicap of two stones, which are near the lower left and the upper right
+/// corner: in each of the other two corners, in both colours.
+pub const FREE_WAYS: [u32; 4] = [1, 6, 9, 14];
+
 /// The moves of a scene: the colour, the column and the row of each. The last is the act.
 pub type Scene = &'static [(Colour, u32, u32)];
 

@@ -58,6 +58,8 @@ pub enum Stretch {
     Inexact,
     /// `clear_board`.
     Clear,
+    /// `fixed_handicap` with two stones, if the games of the scene begin with it.
+    Given,
     /// The moves of the scene.
     Moves,
     /// The moves of the scene, with their colours written in full. (The standard's topic color: it is one of white, w,
@@ -158,6 +160,7 @@ impl Stretch {
             | Stretch::OtherKomi
             | Stretch::Inexact
             | Stretch::Clear
+            | Stretch::Given
             | Stretch::Pass
             | Stretch::ActorPass
             | Stretch::Act
@@ -211,6 +214,8 @@ impl Stretch {
             Stretch::OtherKomi => ask(Command::Komi(board.other_komi)),
             Stretch::Inexact => ask(Command::Komi(board.inexact_komi)),
             Stretch::Clear => ask(Command::ClearBoard),
+            Stretch::Given if board.has_handicap => ask(Command::FixedHandicap(2)),
+            Stretch::Given => Question::Nothing,
             Stretch::Undo | Stretch::Back(_) => ask(Command::Undo),
             Stretch::Handicap => ask(Command::FixedHandicap(board.stones)),
             Stretch::Stones(stones) => ask(Command::FixedHandicap(stones)),

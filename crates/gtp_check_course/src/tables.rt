@@ -16,12 +16,13 @@ use go_base::Colour;
 /// board.
 ///
 /// A probe is undone itself, and an `undo` after it may fail. So only a move that is undone at once tests `undo`.
-pub(crate) static SCENE: [Stretch; 34] = [
+pub(crate) static SCENE: [Stretch; 36] = [
     Stretch::Seek,
     Stretch::Size,
     Stretch::Taken,
     Stretch::Komi,
     Stretch::Clear,
+    Stretch::Given,
     Stretch::Moves,
     Stretch::Own,
     Stretch::Corner,
@@ -50,6 +51,7 @@ pub(crate) static SCENE: [Stretch; 34] = [
     Stretch::AllBack(12),
     Stretch::Moves,
     Stretch::Clear,
+    Stretch::Given,
     Stretch::Own,
 ];
 
@@ -57,12 +59,13 @@ pub(crate) static SCENE: [Stretch; 34] = [
 /// ends it, after a move elsewhere and by itself. It comes back with a second `undo`, if that succeeds. At last the
 /// engine has to choose a move of the colour that may not retake, when it has hardly another one. (The rules of play,
 /// topic ko; the standard's topics undo and genmove. A bug in each of these can spoil a match.)
-pub(crate) static KO: [Stretch; 48] = [
+pub(crate) static KO: [Stretch; 51] = [
     Stretch::Seek,
     Stretch::Size,
     Stretch::Taken,
     Stretch::Komi,
     Stretch::Clear,
+    Stretch::Given,
     Stretch::Moves,
     Stretch::Own,
     Stretch::Corner,
@@ -90,6 +93,7 @@ pub(crate) static KO: [Stretch; 48] = [
     Stretch::AllBack(12),
     Stretch::Moves,
     Stretch::Clear,
+    Stretch::Given,
     Stretch::Own,
     Stretch::Moves,
     Stretch::Elsewhere,
@@ -100,6 +104,7 @@ pub(crate) static KO: [Stretch; 48] = [
     Stretch::ActorPass,
     Stretch::Own,
     Stretch::Clear,
+    Stretch::Given,
     Stretch::Moves,
     Stretch::Undo,
     Stretch::Sealed,
@@ -109,12 +114,13 @@ pub(crate) static KO: [Stretch; 48] = [
 ];
 
 /// The same if the act is refused: it is no move, so one `undo` undoes what came after it.
-pub(crate) static REFUSED: [Stretch; 31] = [
+pub(crate) static REFUSED: [Stretch; 33] = [
     Stretch::Seek,
     Stretch::Size,
     Stretch::Taken,
     Stretch::Komi,
     Stretch::Clear,
+    Stretch::Given,
     Stretch::Moves,
     Stretch::Own,
     Stretch::Corner,
@@ -140,6 +146,7 @@ pub(crate) static REFUSED: [Stretch; 31] = [
     Stretch::AllBack(12),
     Stretch::Moves,
     Stretch::Clear,
+    Stretch::Given,
     Stretch::Own,
 ];
 

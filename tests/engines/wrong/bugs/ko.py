@@ -9,6 +9,7 @@ from tests.engines.wrong.bug import (
     Keeping,
     instead_of,
     on,
+    plays,
     removed,
     shown_by,
 )
@@ -26,6 +27,24 @@ def no_ko(self, right, board, colour, point):
 def no_ko_at_the_edge(self, right, board, colour, point):
     """A ko is noticed only where the stone that took has four neighbours."""
     return right(board, colour, point) and len(self.near[self.moves[-1][1]]) == 4
+
+
+def with_handicap(moves, *commands):
+    """Returns the commands of a new game with a handicap: these moves, and then these commands."""
+    return on(9, "", "fixed_handicap 2", *plays(moves), *commands)
+
+
+@instead_of("is_ko", with_handicap(KO, "play b B1"), "?")
+def no_ko_after_a_handicap(self, right, board, colour, point):
+    """There is no ko in a game with a handicap: the move before the first one isn't set there."""
+    return not self.first_board() and right(board, colour, point)
+
+
+@instead_of("is_ko", with_handicap(KO + " b pass", "play b B1"), "=")
+def every_board_is_ko_after_a_handicap(self, right, board, colour, point):
+    """In a game with a handicap no board may come back, under simple ko too: its boards are kept
+    from the handicap on, and all of them are looked at."""
+    return board in self.boards if self.first_board() else right(board, colour, point)
 
 
 @instead_of("is_ko", on(2, "b A1 w B1 w B2 w A2", "play b A1"), "=")
@@ -93,6 +112,15 @@ class KoForbidsBothColours(KoPoint):
 
     def is_ko(self, board, colour, point):
         return self.kept is not None and point == self.kept[1]
+
+
+@shown_by(with_handicap(KO, "play w B1"), "=")
+class KoOfTheOtherColourAfterAHandicap(KoPoint):
+    """In a game with a handicap the ko is forbidden for the colour that captured: White moves first
+    there, and the colour is taken from the number of moves."""
+
+    def is_ko(self, board, colour, point):
+        return super().is_ko(board, other(colour) if self.first_board() else colour, point)
 
 
 @shown_by(on(5, "w A1 b B1 b A3 w B2 w B3 w A4 b A2", "play w A1"), "=")

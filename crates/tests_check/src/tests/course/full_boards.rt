@@ -1,5 +1,5 @@
 //! Boards that are filled, however they are turned, on sizes 3, 5, 6 and 19.
-use super::{after, asked, board, turned};
+use super::{PARTS_OF_SCENE, after, asked, board, part_of, turned};
 use crate::asserts::{assert_equal, assert_equal_for, assert_true};
 use go_base::Colour;
 use go_board::Game;
@@ -102,15 +102,16 @@ fn sealed(rt: &impl Abort, board: &Board) -> (Game, Colour) {
 fn beside_a_ko_on_a_full_board_the_other_colour_may_only_pass(rt: HostRuntime) {
     let legal = [0, 0, 0, 0, 2, 1];
     for lines in [5, 6, 19] {
-        for part in 0..Lesson::Ko.parts() {
-            let board = board(&rt, Lesson::Ko, part, lines);
-            let (game, took) = sealed(&rt, &board);
-            let found = legal_points(&game, took.other());
-            let wanted = legal.get((part / WAYS) as usize).copied();
-            assert_equal_for(&rt, (lines, part), Some(found), wanted);
-            let answer = asked(Stretch::Answer, 0, &board, &game);
-            let genmove = CheckCommand::Match(Command::Genmove(took.other()));
-            assert_equal_for(&rt, (lines, part), answer, Question::Ask(genmove));
+        for (number, wanted) in legal.iter().enumerate() {
+            for way in 0..PARTS_OF_SCENE {
+                let board = board(&rt, Lesson::Ko, part_of(legal.len(), number, way), lines);
+                let (game, took) = sealed(&rt, &board);
+                let found = legal_points(&game, took.other());
+                assert_equal_for(&rt, (lines, number, way), found, *wanted);
+                let answer = asked(Stretch::Answer, 0, &board, &game);
+                let genmove = CheckCommand::Match(Command::Genmove(took.other()));
+                assert_equal_for(&rt, (lines, number, way), answer, Question::Ask(genmove));
+            }
         }
     }
 }

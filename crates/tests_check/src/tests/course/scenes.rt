@@ -1,25 +1,32 @@
 //! Scenes are what they are said to be, however they are turned, on sizes 5, 6 and 19.
-use super::{after, turned};
+use super::{PARTS_OF_SCENE, after, board, part_of};
 use crate::asserts::{assert_equal, assert_equal_for, some};
 use go_base::Colour::{Black, White};
+use gtp_check_course::lessons::Lesson;
 use gtp_check_course::scenes::{CAPTURES, JOINING, KO, SUICIDE, Scene, WAYS};
 use std::process::Abort;
 
-/// How many stones each act takes, where it is legal, in all ways and on several sizes.
-fn assert_taken(rt: &impl Abort, scenes: &[Scene], taken: &[Option<u32>]) {
+/// How many stones each act takes, where it is legal, in all parts of a lesson and on several sizes. A handicap is on
+/// nine lines and more, and none of its stones is taken.
+fn assert_taken(rt: &impl Abort, lesson: Lesson, scenes: &[Scene], taken: &[Option<u32>]) {
     assert_equal(rt, scenes.len(), taken.len());
-    for (scene, taken) in scenes.iter().zip(taken) {
-        let (act, before) = some(rt, scene.split_last());
-        for number in 0..WAYS {
+    for (number, (scene, taken)) in scenes.iter().zip(taken).enumerate() {
+        for way in 0..PARTS_OF_SCENE {
             for lines in [5, 6, 19] {
-                let board = turned(rt, lines, number);
+                let board = board(rt, lesson, part_of(scenes.len(), number, way), lines);
+                let case = (lesson, number, way, lines);
+                assert_equal_for(rt, case, board.scene, *scene);
+                assert_equal_for(rt, case, board.has_handicap, way >= WAYS);
+                let (act, before) = some(rt, board.scene.split_last());
                 let mut game = after(rt, &board, before);
+                let stones = if board.has_handicap { 2 } else { 0 };
+                assert_equal_for(rt, case, game.handicap(), stones);
                 let act = board.way.act(*act, board.size);
                 let before = game.captured(act.colour);
                 let played = game.play(act.colour, act.vertex).is_ok();
                 let found = game.captured(act.colour).saturating_sub(before);
                 let found = played.then_some(found);
-                assert_equal_for(rt, (*scene, number, lines), found, *taken);
+                assert_equal_for(rt, case, found, *taken);
             }
         }
     }
@@ -28,11 +35,14 @@ fn assert_taken(rt: &impl Abort, scenes: &[Scene], taken: &[Option<u32>]) {
 #[test]
 fn acts_take_the_stones_that_they_are_to_take_and_suicides_are_refused(rt: HostRuntime) {
     let one = Some(1);
-    assert_taken(&rt, &KO, &[one, one, one, one, Some(2), one]);
+    let kos = [one, one, one, one, Some(2), one];
+    assert_taken(&rt, Lesson::Ko, &KO, &kos);
     let captures = [one, one, one, Some(2), Some(3), Some(2), Some(3), Some(3)];
-    assert_taken(&rt, &CAPTURES, &captures);
-    assert_taken(&rt, &JOINING, &[Some(0), Some(0), Some(3), Some(4)]);
-    assert_taken(&rt, &SUICIDE, &[None, None, None, None, None]);
+    assert_taken(&rt, Lesson::Captures, &CAPTURES, &captures);
+    let joined = [Some(0), Some(0), Some(3), Some(4)];
+    assert_taken(&rt, Lesson::Joining, &JOINING, &joined);
+    let none = [None, None, None, None, None];
+    assert_taken(&rt, Lesson::Suicide, &SUICIDE, &none);
 }
 
 #[test]
@@ -45,13 +55,13 @@ fn kos_may_not_be_retaken_and_what_looks_like_one_may(rt: HostRuntime) {
         ((White, 2, 1), true),
         ((White, 1, 1), true),
     ];
-    for (scene, (retake, may)) in KO.iter().zip(retakes) {
-        for number in 0..WAYS {
-            let board = turned(&rt, 5, number);
-            let game = after(&rt, &board, scene);
+    for (number, (retake, may)) in retakes.into_iter().enumerate() {
+        for way in 0..PARTS_OF_SCENE {
+            let board = board(&rt, Lesson::Ko, part_of(KO.len(), number, way), 5);
+            let game = after(&rt, &board, board.scene);
             let retake = board.way.act(retake, board.size);
             let legal = game.legal(retake.colour, retake.vertex);
-            assert_equal_for(&rt, (*scene, number), legal, may);
+            assert_equal_for(&rt, (number, way), legal, may);
         }
     }
 }
