@@ -84,6 +84,8 @@ OTHERS: Dict[Lessons, Tuple[str, ...]] = {
         "last_taken_chain_comes_back",
         # a chain gets a liberty by a capture, and a play is legal that was suicide before
         "suicide_is_noted",
+        # legal retakes
+        "ko_after_a_chain ko_after_two_stones",
     ),
     ("joining",): (
         "joined_chain_counts_twice",
@@ -98,6 +100,8 @@ OTHERS: Dict[Lessons, Tuple[str, ...]] = {
         "both_chains_die shared_liberty_counts_once prisoners_allow_suicide colours_by_turn",
         "ko_stays stones_of_the_game_before taken_stones_of_the_game_before",
         "boards_of_earlier_games",
+        # where hardly a point is legal
+        "takes_ko_back_after_undo",
     ),
     ("handicaps",): (
         # on 23x23 U20 has a stone of a handicap, and is probed

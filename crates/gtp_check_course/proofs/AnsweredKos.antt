@@ -1,4 +1,4 @@
--- In each part of the lesson of kos a move of the other colour is asked for right after the act.
+-- In each part of the lesson of kos a move of the other colour is asked for right after the act, and again.
 use Rattle.std.specs.Prelude.{◌==◌, ◌&&◌, ◌||◌, nat_le, if◌then◌else◌}
 use Rattle.std.proofs.Common.{◌≡◌, ℕ, Bool, true, false, ◌+◌, ◌-◌, ◌*◌, ◌/◌, ◌%◌, ◌<◌, ◌≤◌, refl, sym, ap, arith, ◌∙◌, subst}
 use Rattle.std.proofs.Common.{Some, ◌⊎◌, inl, inr}
@@ -9,9 +9,12 @@ use Rattle.gtp_check_course.specs.declared.actions.Question.{Question}
 use Rattle.gtp_check_course.specs.declared.actions.Question.TheVariants.{Nothing}
 use Rattle.gtp_check_course.specs.declared.boards.Board.{Board}
 use Rattle.gtp_check_course.specs.declared.stretches.Stretch.TheVariants as stretch
-use Rattle.gtp_check_course.specs.Laws.{AsksAt, AsksInTurn, EachKoIsAnswered, Fills, Seals, StaysEmpty, fills}
+use Rattle.gtp_check_course.specs.Laws.{AsksAt, AsksForAnswer, AsksInTurn, EachKoIsAnswered, Fills, Seals, StaysEmpty, fills}
 use Rattle.gtp_check_course.specs.Questions.{act_asked, answer_asked, is_left_empty, last_of, sealed_asked}
 use Rattle.gtp_check_course.specs.declared.lessons.Lesson.TheVariants as lesson
+use Rattle.gtp_check_course.specs.Scenes.{scene_of}
+use Rattle.gtp_check_course.proofs.AskedScenes.{probes_own}
+use Rattle.gtp_check_course.proofs.SceneKos.{HasKo, has_ko}
 use Rattle.gtp_check_course.proofs.ClearedBoard.{ko_short, plays, short_board}
 
 -- ---- what stays empty
@@ -135,10 +138,11 @@ module _ (board : Board) (act : Colour × ℕ × ℕ) where
     seals : board.size ≤ 25 → Seals stretch.Sealed board act
     seals most = record { all = fills_crossing most; only = fills_step }
 
--- ---- the seven stretches
+-- ---- the ten stretches
 
-pub each_ko : EachKoIsAnswered
-each_ko part board act scene least most is = record {
+asks_answer : (part : ℕ) (board : Board) (act : Colour × ℕ × ℕ) → board.scene.now ≡ scene_of lesson.Ko part
+    → board.size ≤ 25 → last_of board.scene.now ≡ Some act → AsksForAnswer lesson.Ko part board act
+asks_answer part board act scene most is = record {
   number = 43;
   clears = AsksInTurn.next stretch.Clear refl (record { within = omega arith; is = λ draws game. refl })
       (AsksInTurn.next stretch.Given refl (record { within = omega arith; is = λ draws game. refl }) AsksInTurn.none);
@@ -155,5 +159,16 @@ each_ko part board act scene least most is = record {
   alone = refl;
   plays = record { within = omega arith; is = λ draws game. sym (ap (act_asked board) is) };
   answers = AsksInTurn.next stretch.Answer refl
+      (record { within = omega arith; is = λ draws game. sym (ap (answer_asked board) is) })
+      (AsksInTurn.next stretch.Undo refl (record { within = omega arith; is = λ draws game. refl }) AsksInTurn.none);
+  own = stretch.Own;
+  has_own = refl;
+  probes_each = probes_own board (short_board lesson.Ko part board ko_short scene);
+  answers_again = AsksInTurn.next stretch.Answer refl
       (record { within = omega arith; is = λ draws game. sym (ap (answer_asked board) is) }) AsksInTurn.none;
 }
+
+pub each_ko : EachKoIsAnswered
+each_ko part board less scene least most =
+    let ko : HasKo board.scene.now = subst HasKo (sym scene) (has_ko part less) in
+    (ko.act, ko.last, ko.is_ko, asks_answer part board ko.act scene most ko.last)

@@ -34,7 +34,7 @@ own_is board number rest act less is =
     ∙ ap (own_asked board (number * 2 + rest)) is
     ∙ ap (λ (c : Colour). probes c (turned board.way act.1 act.2 board.size)) (colour_is number rest less)
 
-probes_own : (board : Board) → length board.scene.now ≤ 12 → ProbesEachMove stretch.Own board
+pub probes_own : (board : Board) → length board.scene.now ≤ 12 → ProbesEachMove stretch.Own board
 probes_own board short number act is =
     let less : number < length board.scene.now = within board.scene.now number act is in (
       record { within = omega (arith, less, short); is = λ draws game. sym black },
@@ -214,8 +214,8 @@ begins_joining = record {
 
 pub each_in_both : EachRuleIsAskedInBoth
 each_in_both = record {
-  ko = in_both lesson.Ko 6 begins_ko (record { scenes = refl; even = refl; all = refl; lines = λ part size. refl });
-  captures = in_both lesson.Captures 8 begins_captures
+  ko = in_both lesson.Ko 4 begins_ko (record { scenes = refl; even = refl; all = refl; lines = λ part size. refl });
+  captures = in_both lesson.Captures 10 begins_captures
       (record { scenes = refl; even = refl; all = refl; lines = λ part size. refl });
   suicide = in_both lesson.Suicide 5 begins_suicide
       (record { scenes = refl; even = refl; all = refl; lines = λ part size. refl });

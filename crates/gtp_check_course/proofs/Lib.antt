@@ -4,6 +4,7 @@ pub mod Candidates
 pub mod OneQuestion
 pub mod ClearedBoard
 pub mod NoSuicide
+pub mod AskedScenes
+pub mod SceneKos
 pub mod AnsweredKos
 pub mod PosedQuestions
-pub mod AskedScenes

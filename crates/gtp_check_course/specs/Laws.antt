@@ -26,6 +26,7 @@ use Rattle.gtp_check_course.specs.declared.suicides.Suicide.{Suicide}
 use Rattle.gtp_check_course.specs.declared.suicides.Suicide.TheVariants.{Unasked}
 use Rattle.gtp_check_course.specs.Course.{Course, GoesTo, IsIn, Leaves, begun, with_finding}
 use Rattle.gtp_check_course.specs.Boards.{IsBoard}
+use Rattle.gtp_check_course.specs.Kos.{IsKo}
 use Rattle.gtp_check_course.specs.Lessons.{parts_of, stretches_of}
 use Rattle.gtp_check_course.specs.Questions.{IsQuestion, asks, given_asked, last_of, probes}
 use Rattle.gtp_check_course.specs.Scenes.{Acts, scene_of, scenes_of, turned, turned_act, turned_colour}
@@ -174,9 +175,10 @@ pub record Seals (stretch : Stretch) (board : Board) (act : Colour × ℕ × ℕ
       → (step : ℕ) × AsksAt stretch board step (fills board act column row)
   pub only : (step : ℕ) → step < steps_of stretch → Fills stretch board act step
 
--- Seven stretches of the part come one right after the other. The board is cleared; a handicap is asked for, if the
+-- Ten stretches of the part come one right after the other. The board is cleared; a handicap is asked for, if the
 -- game begins with one; the moves of the scene are asked, and the last of them, the act, is taken back; the act's colour
--- fills the board; it acts, and nothing else is asked; and the engine is asked for a move of the other colour.
+-- fills the board; it acts, and nothing else is asked; and the engine is asked for a move of the other colour. That is
+-- taken back, the points of the scene's moves are probed, where the retake is, and the engine is asked again.
 pub record AsksForAnswer (lesson : Lesson) (part : ℕ) (board : Board) (act : Colour × ℕ × ℕ) : Type 0 where
   pub number : ℕ
   pub clears : AsksInTurn lesson part board number
@@ -193,11 +195,17 @@ pub record AsksForAnswer (lesson : Lesson) (part : ℕ) (board : Board) (act : C
   pub alone : steps_of acts ≡ 1
   pub plays : AsksAt acts board 0 (asks (command.Play (turned_act board.way act board.size)))
   pub answers : AsksInTurn lesson part board (number + 6)
+      (asks (command.Genmove (other (turned_colour board.way act.0))) ∷ asks command.Undo ∷ [])
+  pub own : Stretch
+  pub has_own : slice_get (stretches_of lesson part) (number + 8) ≡ Some own
+  pub probes_each : ProbesEachMove own board
+  pub answers_again : AsksInTurn lesson part board (number + 9)
       (asks (command.Genmove (other (turned_colour board.way act.0))) ∷ [])
 
--- In each part of the lesson of kos a move of the other colour is asked for right after the act, which is the last
--- move of the scene, on a board where hardly a point is empty.
+-- Each part of the lesson of kos has a ko: the last move of its scene, the act, takes it. A move of the other colour is
+-- asked for right after the act, on a board where hardly a point is empty, and again after that move is taken back.
 abbrev pub EachKoIsAnswered : Type 0
-EachKoIsAnswered = (part : ℕ) (board : Board) (act : Colour × ℕ × ℕ) → board.scene.now ≡ scene_of lesson.Ko part
-    → 1 ≤ board.size → board.size ≤ most_size → last_of board.scene.now ≡ Some act
-    → AsksForAnswer lesson.Ko part board act
+EachKoIsAnswered = (part : ℕ) (board : Board) → part < parts_of lesson.Ko → board.scene.now ≡ scene_of lesson.Ko part
+    → 1 ≤ board.size → board.size ≤ most_size
+    → (act : Colour × ℕ × ℕ) × (last_of board.scene.now ≡ Some act) × IsKo board.scene.now act
+    × AsksForAnswer lesson.Ko part board act

@@ -45,8 +45,8 @@ parts_of Start = 4
 parts_of Placed = 1
 parts_of Errors = 4
 parts_of Sizes = 25
-parts_of Ko = 120
-parts_of Captures = 160
+parts_of Ko = 80
+parts_of Captures = 200
 parts_of Suicide = 100
 parts_of Joining = 80
 parts_of Handicaps = 300
@@ -59,8 +59,8 @@ parts_of Restarts = 5
 
 -- how many of them, the first ones, have even games; the games of the others begin with a handicap
 abbrev pub even_parts : Lesson → ℕ
-even_parts Ko = 96
-even_parts Captures = 128
+even_parts Ko = 64
+even_parts Captures = 160
 even_parts Suicide = 80
 even_parts Joining = 64
 even_parts lesson = parts_of lesson

@@ -1,6 +1,7 @@
 pub mod Places
 pub mod Openings
 pub mod Scenes
+pub mod Kos
 pub mod Boards
 pub mod Stretches
 pub mod Lessons

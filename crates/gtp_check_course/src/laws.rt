@@ -28,9 +28,11 @@ pub fn each_rule_is_asked_in_both()
     ensures { EachRuleIsAskedInBoth }
 {}
 
-/// In each part of the lesson `ko` the board is cleared, the moves of the scene are asked, and the last of them, the
-/// act, is undone. Then its colour fills the board except for the act's point, two gaps and the far corner, and acts.
-/// Right after that the engine is asked for a move of the other colour.
+/// Each part of the lesson `ko` has a ko: the last move of its scene, the act, takes one stone by a stone alone that has
+/// no other liberty then. The board is cleared, the moves of the scene are asked, and the act is undone. Then its colour
+/// fills the board except for the act's point, two gaps and the far corner, and acts. Right after that the engine is
+/// asked for a move of the other colour. That is undone, the points of the scene's moves are probed, where the retake is,
+/// and the engine is asked for the move again.
 pub fn each_ko_is_answered()
     ensures { EachKoIsAnswered }
 {}

@@ -35,9 +35,9 @@ pub enum Lesson {
     /// Then the capture of all stones of a full board, which is undone with the moves before it, on some sizes with all
     /// of them.
     Sizes,
-    /// Kos, and what looks like one: who may retake, and when.
+    /// Kos: who may retake, and when.
     Ko,
-    /// Captures of one stone and of several, of one chain and of several.
+    /// Captures of one stone and of several, of one chain and of several, and retakes that no ko forbids.
     Captures,
     /// Moves that leave their own chain without a liberty.
     Suicide,
@@ -136,8 +136,8 @@ impl Lesson {
             Lesson::Placed => 1,
             Lesson::Errors => 4,
             Lesson::Sizes => 25,
-            Lesson::Ko => 6 * PARTS_OF_SCENE,
-            Lesson::Captures => 8 * PARTS_OF_SCENE,
+            Lesson::Ko => 4 * PARTS_OF_SCENE,
+            Lesson::Captures => 10 * PARTS_OF_SCENE,
             Lesson::Suicide => 5 * PARTS_OF_SCENE,
             Lesson::Joining => 4 * PARTS_OF_SCENE,
             Lesson::Handicaps => 300,
@@ -154,8 +154,8 @@ impl Lesson {
         ensures { result ≡ even_parts self }
     {
         match self {
-            Lesson::Ko => 6 * WAYS,
-            Lesson::Captures => 8 * WAYS,
+            Lesson::Ko => 4 * WAYS,
+            Lesson::Captures => 10 * WAYS,
             Lesson::Suicide => 5 * WAYS,
             Lesson::Joining => 4 * WAYS,
             _ => self.parts(),

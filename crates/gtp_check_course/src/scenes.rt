@@ -16,9 +16,8 @@ pub const FREE_WAYS: [u32; 4] = [1, 6, 9, 14];
 /// The moves of a scene: the colour, the column and the row of each. The last is the act.
 pub type Scene = &'static [(Colour, u32, u32)];
 
-/// Kos in the corner, whose stones are captured beside it and in it, at the edge and in the middle. Then two stones
-/// that one captures, and one that a chain captures: there the capturing stone may be recaptured at once.
-pub static KO: [Scene; 6] = [
+/// Kos in the corner, whose stones are captured beside it and in it, at the edge and in the middle.
+pub static KO: [Scene; 4] = [
     &[
         (Black, 1, 2),
         (White, 3, 1),
@@ -52,25 +51,6 @@ pub static KO: [Scene; 6] = [
         (Black, 4, 3),
         (White, 3, 3),
     ],
-    &[
-        (White, 1, 1),
-        (Black, 1, 2),
-        (White, 2, 1),
-        (Black, 2, 2),
-        (White, 3, 2),
-        (White, 4, 1),
-        (Black, 3, 1),
-    ],
-    &[
-        (Black, 1, 2),
-        (White, 1, 1),
-        (Black, 2, 2),
-        (White, 1, 3),
-        (White, 2, 3),
-        (White, 3, 2),
-        (White, 3, 1),
-        (Black, 2, 1),
-    ],
 ];
 
 /// Two crossings beside a ko, which may be the same.
@@ -84,7 +64,7 @@ pub struct Gaps {
 
 /// What stays empty beside each of the kos when the colour that acts has all other points: there the chains of the
 /// other colour have a liberty, and a move of that colour would be suicide.
-pub static KO_GAPS: [Gaps; 6] = [
+pub static KO_GAPS: [Gaps; 4] = [
     Gaps {
         first: (1, 3),
         second: (1, 3),
@@ -101,19 +81,12 @@ pub static KO_GAPS: [Gaps; 6] = [
         first: (2, 4),
         second: (3, 1),
     },
-    Gaps {
-        first: (4, 2),
-        second: (4, 2),
-    },
-    Gaps {
-        first: (3, 3),
-        second: (3, 3),
-    },
 ];
 
 /// Captures: one stone in the corner, at the edge and in the middle; two, and three around a corner; two chains and
-/// three at once; and three stones by a stone that had no liberty before.
-pub static CAPTURES: [Scene; 8] = [
+/// three at once; and three stones by a stone that had no liberty before. Then two that look like kos: two stones that
+/// one captures, and one that a chain captures. There the capturing stones may be recaptured at once.
+pub static CAPTURES: [Scene; 10] = [
     &[(White, 1, 1), (Black, 1, 2), (White, 4, 5), (Black, 2, 1)],
     &[(White, 3, 1), (Black, 2, 1), (Black, 4, 1), (Black, 3, 2)],
     &[
@@ -169,6 +142,25 @@ pub static CAPTURES: [Scene; 8] = [
         (Black, 5, 1),
         (Black, 4, 2),
         (White, 4, 1),
+    ],
+    &[
+        (White, 1, 1),
+        (Black, 1, 2),
+        (White, 2, 1),
+        (Black, 2, 2),
+        (White, 3, 2),
+        (White, 4, 1),
+        (Black, 3, 1),
+    ],
+    &[
+        (Black, 1, 2),
+        (White, 1, 1),
+        (Black, 2, 2),
+        (White, 1, 3),
+        (White, 2, 3),
+        (White, 3, 2),
+        (White, 3, 1),
+        (Black, 2, 1),
     ],
 ];
 

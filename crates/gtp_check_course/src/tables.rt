@@ -57,9 +57,10 @@ pub(crate) static SCENE: [Stretch; 36] = [
 
 /// What the lesson `ko` asks: the same, and more about how a ko ends and comes back. A pass of the colour that captured
 /// ends it, after a move elsewhere and by itself. It comes back with a second `undo`, if that succeeds. At last the
-/// engine has to choose a move of the colour that may not retake, when it has hardly another one. (The rules of play,
-/// topic ko; the standard's topics undo and genmove. A bug in each of these can spoil a match.)
-pub(crate) static KO: [Stretch; 51] = [
+/// engine has to choose a move of the colour that may not retake, when it has hardly another one, and once more after
+/// that move is undone. (The rules of play, topic ko; the standard's topics undo and genmove. A bug in each of these can
+/// spoil a match, or what is played out on a program's board.)
+pub(crate) static KO: [Stretch; 54] = [
     Stretch::Seek,
     Stretch::Size,
     Stretch::Taken,
@@ -109,6 +110,9 @@ pub(crate) static KO: [Stretch; 51] = [
     Stretch::Undo,
     Stretch::Sealed,
     Stretch::Act,
+    Stretch::Answer,
+    Stretch::Undo,
+    Stretch::Own,
     Stretch::Answer,
     Stretch::Own,
 ];

@@ -1,7 +1,7 @@
 """The moves that an engine chooses."""
 from tests.engines.wrong.bug import FORCED, KO, Bug, Keeping, instead_of, on, removed, shown_by
 from tests.references.engine.engine import Failure
-from tests.references.engine.game import EMPTY, Board, in_order, points
+from tests.references.engine.game import EMPTY, Board, filled, in_order, points
 from tests.references.engine.values import BLACK, PASS, WHITE, other
 
 # White's only legal play is A1, which takes the stone on B1. Then Black may not take back.
@@ -81,6 +81,30 @@ def takes_ko_back(self, right, colour):
         ) < self.board.count(other(colour)):
             return point
     return right(colour)
+
+
+@shown_by(on(5, KO, "genmove b", "undo", "genmove b"), "but A1 A2 B2 C1 B1")
+class TakesKoBackAfterUndo(Bug):
+    """After an `undo` a capture is chosen where there is one, without a look at ko: `undo` doesn't
+    bring back the point that the choice looks at."""
+
+    undone = False
+
+    def move(self, colour, point):
+        super().move(colour, point)
+        self.undone = False
+
+    def undo(self):
+        super().undo()
+        self.undone = True
+
+    def choose(self, colour):
+        for point in points(self.size) if self.undone else ():
+            if point not in self.board and self.captures(
+                filled(self.board, [point], colour), colour, point
+            ):
+                return point
+        return super().choose(colour)
 
 
 @instead_of("do_genmove", on(3, "w A2 w A3 b B1 b B2 b B3 b C2", "genmove b", "play b A2"), "=")

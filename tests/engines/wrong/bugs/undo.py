@@ -65,6 +65,34 @@ class KoOfTheTakenBackMove(Bug):
         return board == self.compared
 
 
+@shown_by(on(5, KO, "genmove b", "undo", "play b B1"), "?")
+class KoIsLostWithAGenmove(Bug):
+    """`undo` of a move that the engine chose forgets the ko: only `play` notes what it was."""
+
+    chosen = lost = -1  # how many moves there were after a genmove, and after its `undo`
+
+    def begin(self, size):
+        super().begin(size)
+        self.chosen = self.lost = -1
+
+    def move(self, colour, point):
+        super().move(colour, point)
+        self.chosen = self.lost = -1
+
+    def do_genmove(self, arguments):
+        text = super().do_genmove(arguments)
+        self.chosen = len(self.moves)
+        return text
+
+    def undo(self):
+        was_chosen = self.chosen == len(self.moves)
+        super().undo()
+        self.chosen, self.lost = -1, len(self.moves) if was_chosen else self.lost
+
+    def is_ko(self, board, colour, point):
+        return len(self.moves) != self.lost and super().is_ko(board, colour, point)
+
+
 @instead_of("do_undo", on(5, "", "undo"), "?")
 def empty_record_is_undone(self, right, arguments):
     """`undo` succeeds where there is no move."""

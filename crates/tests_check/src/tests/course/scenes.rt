@@ -1,7 +1,8 @@
 //! Scenes are what they are said to be, however they are turned, on sizes 5, 6 and 19.
 use super::{PARTS_OF_SCENE, after, board, part_of};
 use crate::asserts::{assert_equal, assert_equal_for, some};
-use go_base::Colour::{Black, White};
+use go_base::Colour::{self, Black, White};
+use go_board::PlayFault;
 use gtp_check_course::lessons::Lesson;
 use gtp_check_course::scenes::{CAPTURES, JOINING, KO, SUICIDE, Scene, WAYS};
 use std::process::Abort;
@@ -35,9 +36,10 @@ fn assert_taken(rt: &impl Abort, lesson: Lesson, scenes: &[Scene], taken: &[Opti
 #[test]
 fn acts_take_the_stones_that_they_are_to_take_and_suicides_are_refused(rt: HostRuntime) {
     let one = Some(1);
-    let kos = [one, one, one, one, Some(2), one];
-    assert_taken(&rt, Lesson::Ko, &KO, &kos);
-    let captures = [one, one, one, Some(2), Some(3), Some(2), Some(3), Some(3)];
+    assert_taken(&rt, Lesson::Ko, &KO, &[one, one, one, one]);
+    let two = Some(2);
+    let three = Some(3);
+    let captures = [one, one, one, two, three, two, three, three, two, one];
     assert_taken(&rt, Lesson::Captures, &CAPTURES, &captures);
     let joined = [Some(0), Some(0), Some(3), Some(4)];
     assert_taken(&rt, Lesson::Joining, &JOINING, &joined);
@@ -45,23 +47,30 @@ fn acts_take_the_stones_that_they_are_to_take_and_suicides_are_refused(rt: HostR
     assert_taken(&rt, Lesson::Suicide, &SUICIDE, &none);
 }
 
+/// Why a play may not retake what the last act of a board's scene took, if it may not.
+fn retaken(rt: &impl Abort, board: &Board, retake: (Colour, u32, u32)) -> Option<PlayFault> {
+    let mut game = after(rt, board, board.scene);
+    let retake = board.way.act(retake, board.size);
+    game.play(retake.colour, retake.vertex).err()
+}
+
 #[test]
 fn kos_may_not_be_retaken_and_what_looks_like_one_may(rt: HostRuntime) {
-    let retakes = [
-        ((Black, 2, 1), false),
-        ((Black, 1, 1), false),
-        ((Black, 4, 1), false),
-        ((Black, 4, 3), false),
-        ((White, 2, 1), true),
-        ((White, 1, 1), true),
-    ];
-    for (number, (retake, may)) in retakes.into_iter().enumerate() {
+    let kos = [(Black, 2, 1), (Black, 1, 1), (Black, 4, 1), (Black, 4, 3)];
+    for (number, retake) in kos.iter().enumerate() {
         for way in 0..PARTS_OF_SCENE {
-            let board = board(&rt, Lesson::Ko, part_of(KO.len(), number, way), 5);
-            let game = after(&rt, &board, board.scene);
-            let retake = board.way.act(retake, board.size);
-            let legal = game.legal(retake.colour, retake.vertex);
-            assert_equal_for(&rt, (number, way), legal, may);
+            for lines in [5, 6, 19] {
+                let board = board(&rt, Lesson::Ko, part_of(KO.len(), number, way), lines);
+                let fault = retaken(&rt, &board, *retake);
+                assert_equal_for(&rt, (number, way, lines), fault, Some(PlayFault::Ko));
+            }
+        }
+    }
+    for (number, retake) in [(8, (White, 2, 1)), (9, (White, 1, 1))] {
+        for way in 0..PARTS_OF_SCENE {
+            let part = part_of(CAPTURES.len(), number, way);
+            let board = board(&rt, Lesson::Captures, part, 5);
+            assert_equal_for(&rt, (number, way), retaken(&rt, &board, retake), None);
         }
     }
 }
