@@ -248,8 +248,9 @@ pub(crate) static IN_FULL: [Stretch; 10] = [
 /// The list of the engine's commands.
 pub(crate) static LIST: [Stretch; 2] = [Stretch::Seek, Stretch::List];
 
-/// Each point of a size. Then a full board, of which everything is captured at once.
-pub(crate) static SIZES: [Stretch; 18] = [
+/// Each point of a size. Then a full board, of which everything is captured at once. With its stones the size of scenes
+/// is asked for, which most are larger than; an engine may refuse that during a game.
+pub(crate) static SIZES: [Stretch; 23] = [
     Stretch::Size,
     Stretch::Taken,
     Stretch::Komi,
@@ -264,6 +265,11 @@ pub(crate) static SIZES: [Stretch; 18] = [
     Stretch::AllBack(640),
     Stretch::Back(3),
     Stretch::Edges,
+    Stretch::OtherSize,
+    Stretch::Clear,
+    Stretch::Edges,
+    Stretch::Size,
+    Stretch::Taken,
     Stretch::Clear,
     Stretch::Genmoves(2),
     Stretch::Emptied(2),

@@ -60,6 +60,16 @@ def small_boards_have_five(self, right, size):
     right(max(size, 5))
 
 
+@instead_of("do_boardsize", on(25, "b Z25", "boardsize 9"), "=")
+def ends_at_a_smaller_size(self, right, arguments):
+    """The program ends at a size that is smaller than that of a game with moves on more than 19
+    lines, whose stones are kept in a table of the new size."""
+    before, moves = self.size, len(self.moves)
+    right(arguments)
+    if moves and self.size < before > 19:
+        raise SystemExit(1)
+
+
 @instead_of("do_clear_board", on(9, "", "play b T19"), "?", plain=False)
 def clear_board_makes_19(self, right, arguments):
     """`clear_board` sets the size back to 19."""
