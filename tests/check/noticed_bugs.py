@@ -72,7 +72,6 @@ OTHERS: Dict[Lessons, Tuple[str, ...]] = {
         # full boards of 19x19 and more, and points past 255 that are taken back
         "search_has_room_for_sixteen_points moves_are_bytes",
     ),
-    ("sizes", "ko"): ("ids_are_shorts",),
     ("komi",): (
         "score_runs_into_the_id prisoners_stay_at_undo undo_sets_komi_back",
         "prisoners_of_the_game_before",
@@ -86,6 +85,8 @@ OTHERS: Dict[Lessons, Tuple[str, ...]] = {
         "suicide_is_noted",
         # legal retakes
         "ko_after_a_chain ko_after_two_stones",
+        # ids of more than 32,767: so many commands has one engine in this lesson
+        "ids_are_shorts",
     ),
     ("joining",): (
         "joined_chain_counts_twice",

@@ -61,7 +61,8 @@ BEYOND: Dict[str, tuple[Sequence[str], Optional[str]]] = {
     "undo_fails_at_once": (HISTORY, "undo"),
     "undo_fails_after_a_genmove": (HISTORY, "undo"),
     "history_is_not_refilled": (HISTORY, "undo"),
-    "refused_undo_takes_back": (HISTORY, None),
+    # a board of 17x17 that is emptied by undos, whose corners are probed
+    "refused_undo_takes_back": (("sizes",), None),
     "suicide_and_no_ko": (PLAYS, None),
     "captures_are_suicide": (PLAYS, None),
 }

@@ -185,16 +185,17 @@ def test_engine_that_refuses_everything(checker: Checker, tmp_path: Path) -> Non
     # It may refuse each size, so no move is asked, but not `list_commands`, which is asked in the
     # last part of the lesson `start`, nor `protocol_version`, which comes in the first of `errors`
     # in place of the size that is asked for again, and three more commands are sent ahead with it.
-    # Each of these two is followed by a start, and the part in pieces has one of its own. The
-    # commands are five of each start, one for each part of a lesson, and in those that look for the
-    # size of scenes 21 more.
+    # Each of these two is followed by a start; each lesson has one of its own, and so has the part
+    # in pieces. The commands are five of each start, one for each part of a lesson, and in those
+    # that look for the size of scenes 21 more.
     parts = {
         **{"start": 4, "placed": 1, "errors": 4, "sizes": 25, "ko": 4 * 20},
         **{"captures": 10 * 20, "suicide": 5 * 20, "joining": 4 * 20, "handicaps": 25 * 12},
         **{"komi": 19, "drawn": 11, "record": 3, "genmoves": 9, "games": 5, "restarts": 5},
     }
     one_size = ("sizes", "handicaps")
-    commands = 4 * 5 + 3 + sum(
+    starts = 3 + len(parts)
+    commands = starts * 5 + 3 + sum(
         count if lesson in one_size else 22 * count for lesson, count in parts.items()
     )
     check = checker.check(ENGINES["refuses"].command(tmp_path), "--trials", "0")
@@ -206,7 +207,7 @@ def test_engine_that_refuses_everything(checker: Checker, tmp_path: Path) -> Non
         *(f"{lesson}: {unasked}" for lesson in parts),
         f"it refuses the sizes {' '.join(map(str, [*range(5, 26), *range(1, 5)]))}",
     ]
-    assert (check.report.commands, check.report.starts) == (commands, 4)
+    assert (check.report.commands, check.report.starts) == (commands, starts)
 
 
 def test_silent_engine_is_waited_for(checker: Checker, tmp_path: Path) -> None:

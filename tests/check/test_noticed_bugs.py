@@ -116,6 +116,20 @@ def test_noticed_bug(noticed: str, checker: Checker, run_engine: RunEngine) -> N
             check_is_real(run_engine, bug, complaint)
 
 
+@pytest.mark.parametrize(
+    "name", ["no_ko_after_a_handicap", "ko_after_a_chain", "seven_stones_lack_the_middle"]
+)
+def test_lesson_alone_shows_the_same(name: str, checker: Checker) -> None:
+    # whatever was asked before it, each lesson begins with a new start
+    bug = BUGS[name]
+    (lesson,) = lessons_of(name, bug.subject)
+    whole, alone = (
+        checker.check(engine_of(bug), "--restarts", "0", *options).report.complaints
+        for options in ((), only(lesson))
+    )
+    assert whole == alone and [complaint.lesson for complaint in alone] == [lesson]
+
+
 def first_pasted(subject: str) -> Type[Bug]:
     """Returns the first bug of a subject whose conversation can be pasted."""
     return next(bug for bug in bugs_of(subject) if bug.name not in {*UNNOTICED, *NOT_PASTED})

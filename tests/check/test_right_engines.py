@@ -1,7 +1,7 @@
 """Right engines: nothing is found, however they write their answers and whatever they lack.
 
 Our engine is asked the whole course with some seeds, and `--count 100` takes so many. Each is some
-240,000 commands.
+280,000 commands.
 """
 from __future__ import annotations
 

@@ -1,6 +1,7 @@
 -- In each part of the lesson of kos a move of the other colour is asked for right after the act, and again.
 use Rattle.std.specs.Prelude.{◌==◌, ◌&&◌, ◌||◌, nat_le, if◌then◌else◌}
-use Rattle.std.proofs.Common.{◌≡◌, ℕ, Bool, true, false, ◌+◌, ◌-◌, ◌*◌, ◌/◌, ◌%◌, ◌<◌, ◌≤◌, refl, sym, ap, arith, ◌∙◌, subst}
+use Rattle.std.proofs.Common.{◌≡◌, ℕ, Bool, true, false, ◌+◌, ◌-◌, ◌*◌, ◌/◌, ◌%◌, ◌<◌, ◌≤◌, refl, sym, ap, arith, ◌∙◌}
+use Rattle.std.proofs.Common.{subst}
 use Rattle.std.proofs.Common.{Some, ◌⊎◌, inl, inr}
 use Rattle.std.proofs.lemmas.Bool.Decides.{nat_tests}
 use Rattle.std.proofs.lemmas.Nat.{div-mul-add, mod-mul-add, mul-add-lt}
@@ -9,7 +10,8 @@ use Rattle.gtp_check_course.specs.declared.actions.Question.{Question}
 use Rattle.gtp_check_course.specs.declared.actions.Question.TheVariants.{Nothing}
 use Rattle.gtp_check_course.specs.declared.boards.Board.{Board}
 use Rattle.gtp_check_course.specs.declared.stretches.Stretch.TheVariants as stretch
-use Rattle.gtp_check_course.specs.Laws.{AsksAt, AsksForAnswer, AsksInTurn, EachKoIsAnswered, Fills, Seals, StaysEmpty, fills}
+use Rattle.gtp_check_course.specs.Laws.{AsksAt, AsksForAnswer, AsksInTurn, EachKoIsAnswered, Fills}
+use Rattle.gtp_check_course.specs.Laws.{Seals, StaysEmpty, fills}
 use Rattle.gtp_check_course.specs.Questions.{act_asked, answer_asked, is_left_empty, last_of, sealed_asked}
 use Rattle.gtp_check_course.specs.declared.lessons.Lesson.TheVariants as lesson
 use Rattle.gtp_check_course.specs.Scenes.{scene_of}
@@ -143,7 +145,7 @@ module _ (board : Board) (act : Colour × ℕ × ℕ) where
 asks_answer : (part : ℕ) (board : Board) (act : Colour × ℕ × ℕ) → board.scene.now ≡ scene_of lesson.Ko part
     → board.size ≤ 25 → last_of board.scene.now ≡ Some act → AsksForAnswer lesson.Ko part board act
 asks_answer part board act scene most is = record {
-  number = 43;
+  number = 44;
   clears = AsksInTurn.next stretch.Clear refl (record { within = omega arith; is = λ draws game. refl })
       (AsksInTurn.next stretch.Given refl (record { within = omega arith; is = λ draws game. refl }) AsksInTurn.none);
   moves = stretch.Moves;

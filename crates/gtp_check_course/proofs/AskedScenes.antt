@@ -25,7 +25,8 @@ colour_is : (number rest : ℕ) → rest < 2
     → colour_of (number * 2 + rest) ≡ (if rest == 0 then Black else White)
 colour_is number rest less = ap (λ (m : ℕ). if m == 0 then Black else White) (mod-mul-add number 2 rest less)
 
-own_is : (board : Board) (number rest : ℕ) (act : Colour × ℕ × ℕ) → rest < 2 → slice_get board.scene.now number ≡ Some act
+own_is : (board : Board) (number rest : ℕ) (act : Colour × ℕ × ℕ) → rest < 2
+    → slice_get board.scene.now number ≡ Some act
     → own_asked board (number * 2 + rest) (slice_get board.scene.now ((number * 2 + rest) / 2))
     ≡ probes (if rest == 0 then Black else White) (turned board.way act.1 act.2 board.size)
 own_is board number rest act less is =
@@ -38,9 +39,13 @@ pub probes_own : (board : Board) → length board.scene.now ≤ 12 → ProbesEac
 probes_own board short number act is =
     let less : number < length board.scene.now = within board.scene.now number act is in (
       record { within = omega (arith, less, short); is = λ draws game. sym black },
-      record { within = omega (arith, less, short); is = λ draws game. sym (own_is board number 1 act (omega arith) is) },
+      record { within = omega (arith, less, short); is = λ draws game. sym white },
     )
   where
+    white : own_asked board (number * 2 + 1) (slice_get board.scene.now ((number * 2 + 1) / 2))
+        ≡ probes White (turned board.way act.1 act.2 board.size)
+    white = own_is board number 1 act (omega arith) is
+
     black : own_asked board (number * 2) (slice_get board.scene.now (number * 2 / 2))
         ≡ probes Black (turned board.way act.1 act.2 board.size)
     black =
@@ -52,10 +57,10 @@ probes_own board short number act is =
 
 -- the stretches with which each part of scenes begins
 record BeginsSo (lesson : Lesson) : Type 0 where
-  clears : (part : ℕ) → slice_get (stretches_of lesson part) 4 ≡ Some stretch.Clear
-  gives : (part : ℕ) → slice_get (stretches_of lesson part) 5 ≡ Some stretch.Given
-  moves : (part : ℕ) → slice_get (stretches_of lesson part) 6 ≡ Some stretch.Moves
-  owns : (part : ℕ) → slice_get (stretches_of lesson part) 7 ≡ Some stretch.Own
+  clears : (part : ℕ) → slice_get (stretches_of lesson part) 5 ≡ Some stretch.Clear
+  gives : (part : ℕ) → slice_get (stretches_of lesson part) 6 ≡ Some stretch.Given
+  moves : (part : ℕ) → slice_get (stretches_of lesson part) 7 ≡ Some stretch.Moves
+  owns : (part : ℕ) → slice_get (stretches_of lesson part) 8 ≡ Some stretch.Own
   short : AreShort (scenes_of lesson)
 
 asks_scene : (lesson : Lesson) (part : ℕ) (Allows : ℕ → Type 0) (has : Bool) (known : Option ℕ) (board : Board)
@@ -63,10 +68,11 @@ asks_scene : (lesson : Lesson) (part : ℕ) (Allows : ℕ → Type 0) (has : Boo
     → AsksScene lesson part (given_asked has) Allows board
 asks_scene lesson part Allows has known board begins same is allowed = record {
   allowed = allowed;
-  number = 4;
+  number = 5;
   clears = AsksInTurn.next stretch.Clear (begins.clears part) (record { within = omega arith; is = λ draws game. refl })
       (AsksInTurn.next stretch.Given (begins.gives part)
-      (record { within = omega arith; is = λ draws game. sym (ap given_asked (is.has_handicap ∙ same)) }) AsksInTurn.none);
+      (record { within = omega arith; is = λ draws game. sym (ap given_asked (is.has_handicap ∙ same)) })
+      AsksInTurn.none);
   moves = stretch.Moves;
   has_moves = begins.moves part;
   plays_each = plays board (short_board lesson part board begins.short is.scene);

@@ -8,3 +8,4 @@ pub mod AskedScenes
 pub mod SceneKos
 pub mod AnsweredKos
 pub mod PosedQuestions
+pub mod FreshLessons

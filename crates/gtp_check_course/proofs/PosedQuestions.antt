@@ -14,7 +14,7 @@ use Rattle.gtp_check_course.specs.declared.actions.Action.TheVariants.{Start, Re
 use Rattle.gtp_check_course.specs.declared.actions.Question.{Question}
 use Rattle.gtp_check_course.specs.declared.actions.Question.TheVariants as asked
 use Rattle.gtp_check_course.specs.declared.stretches.Stretch.{Stretch}
-use Rattle.gtp_check_course.specs.Asking.{Call, IsWanted, Poses, Takes, Tries, after_step, call}
+use Rattle.gtp_check_course.specs.Asking.{Call, IsWanted, Poses, Takes, Tries, after_step, call, is_later}
 use Rattle.gtp_check_course.specs.Course.{Course, part_over, step_over}
 use Rattle.gtp_check_course.specs.Lessons.{stretches_of}
 use Rattle.gtp_check_course.specs.Places.{next_step, next_stretch}
@@ -64,6 +64,11 @@ takes_idle turn (asked.Probe move) takes = (
 takes_idle turn (asked.Size size) takes = tt
 takes_idle turn (asked.Found size) takes = tt
 takes_idle turn asked.Nothing takes = tt
+takes_idle turn asked.Fresh takes = by (is_later turn.old.place) refl
+  where
+    by : (b : Bool) → is_later turn.old.place ≡ b → is_later turn.old.place ≡ false
+    by true is = absurd (takes.0 is)
+    by false is = is
 takes_idle turn asked.Restart takes = takes
 takes_idle turn asked.Kill takes = takes
 
@@ -157,6 +162,15 @@ skip_over turn (asked.Probe move) (inr (is, inr illegal)) takes =
 skip_over turn asked.Nothing is takes = takes.1
 skip_over turn (asked.Size size) is takes = absurd is
 skip_over turn (asked.Found size) is takes = absurd is
+skip_over turn asked.Fresh is takes = by (is_later turn.old.place) refl
+  where
+    skipped : Takes (call turn.lesson turn.old turn.exam) asked.Fresh Skip turn.new
+    skipped =
+        subst (λ (a : Action). Takes (call turn.lesson turn.old turn.exam) asked.Fresh a turn.new) is takes
+
+    by : (b : Bool) → is_later turn.old.place ≡ b → turn.new ≡ step_over turn.lesson turn.old
+    by true later = absurd (skipped.0 later)
+    by false first = (skipped.1 first).1
 skip_over turn asked.Restart is takes = absurd is
 skip_over turn asked.Kill is takes = absurd is
 

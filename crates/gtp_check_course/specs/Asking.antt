@@ -1,5 +1,6 @@
 -- What a step of a course asks, and when it asks nothing.
-use Rattle.std.specs.Prelude.{◌≡◌, ◌≢◌, ℕ, ◌<◌, ◌⊎◌, true, false, [], length, slice_get, Option, None, Some}
+use Rattle.std.specs.Prelude.{◌≡◌, ◌≢◌, ℕ, ◌<◌, nat_lt, ◌==◌, ◌&&◌, ◌⊎◌, Bool, true, false, [], length, slice_get}
+use Rattle.std.specs.Prelude.{Option, None, Some}
 use Rattle.go_board.specs.Game.{GameRecord, IsLegal}
 use Rattle.go_base.specs.declared.moves.Move.{Move}
 use Rattle.gtp_wire.specs.declared.commands.Command.TheVariants as command
@@ -17,6 +18,7 @@ use Rattle.gtp_check_course.specs.declared.boards.Board.{Board}
 use Rattle.gtp_check_course.specs.declared.draws.Draws.{Draws}
 use Rattle.gtp_check_course.specs.declared.lessons.Lesson.{Lesson}
 use Rattle.gtp_check_course.specs.declared.openings.Opening.{Opening}
+use Rattle.gtp_check_course.specs.declared.places.Place.{Place}
 use Rattle.gtp_check_course.specs.declared.stretches.Stretch.{Stretch}
 use Rattle.gtp_check_course.specs.Boards.{IsBoard}
 use Rattle.gtp_check_course.specs.Lessons.{number_of, stretches_of}
@@ -83,6 +85,16 @@ Kills lesson old exam Start new = ⊥
 Kills lesson old exam (Ask command) new = ⊥
 Kills lesson old exam Skip new = ⊥
 Kills lesson old exam Done new = ⊥
+
+-- the place is in the first part of a lesson that comes after another one
+abbrev pub is_later : Place → Bool
+is_later place = nat_lt 0 place.lesson && place.part == 0
+
+-- Where a lesson begins after another one, the engine is started again; elsewhere the step is passed over.
+abbrev pub Freshens : Call → Action → Course → Type 0
+Freshens now action new =
+    (is_later now.course.place ≡ true → Renews now.lesson now.course now.exam action new)
+    × (is_later now.course.place ≡ false → (action ≡ Skip) × (new ≡ after_step now))
 
 -- A command of the opening is asked, and the place stays. It can't be asked only where no more ids are left.
 abbrev pub Opens : Call → CheckCommand → Opening → Action → Course → Type 0
@@ -175,6 +187,7 @@ Takes now (asked.Ask command) action new = Poses now command action new
 Takes now (asked.Probe made) action new = Probes now made action new
 Takes now (asked.Size size) action new = Sees now size action new
 Takes now (asked.Found size) action new = Finds now size action new
+Takes now asked.Fresh action new = Freshens now action new
 Takes now asked.Restart action new = Renews now.lesson now.course now.exam action new
 Takes now asked.Kill action new = Kills now.lesson now.course now.exam action new
 Takes now asked.Nothing action new = (action ≡ Skip) × (new ≡ after_step now)

@@ -1,5 +1,5 @@
--- When a scene is a ko, by its stones alone. A scene is in a corner, so each crossing is given by its column and its row,
--- counted from there.
+-- When a scene is a ko, by its stones alone. A scene is in a corner, so each crossing is given by its column and its
+-- row, counted from there.
 use Rattle.std.specs.Prelude.{◌≡◌, ℕ, ◌+◌, ◌-◌, ◌==◌, nat_lt, nat_le, ◌||◌, ◌&&◌, if◌then◌else◌, Bool, true, false}
 use Rattle.std.specs.Prelude.{List, [], ◌∷◌, ◌++◌, not}
 use Rattle.go_base.specs.Colour.{other}

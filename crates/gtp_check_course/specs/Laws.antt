@@ -22,12 +22,13 @@ use Rattle.gtp_check_course.specs.declared.draws.Draws.{Draws}
 use Rattle.gtp_check_course.specs.declared.lessons.Lesson.{Lesson}
 use Rattle.gtp_check_course.specs.declared.lessons.Lesson.TheVariants as lesson
 use Rattle.gtp_check_course.specs.declared.stretches.Stretch.{Stretch}
+use Rattle.gtp_check_course.specs.declared.stretches.Stretch.TheVariants as stretch
 use Rattle.gtp_check_course.specs.declared.suicides.Suicide.{Suicide}
 use Rattle.gtp_check_course.specs.declared.suicides.Suicide.TheVariants.{Unasked}
 use Rattle.gtp_check_course.specs.Course.{Course, GoesTo, IsIn, Leaves, begun, with_finding}
 use Rattle.gtp_check_course.specs.Boards.{IsBoard}
 use Rattle.gtp_check_course.specs.Kos.{IsKo}
-use Rattle.gtp_check_course.specs.Lessons.{parts_of, stretches_of}
+use Rattle.gtp_check_course.specs.Lessons.{number_of, parts_of, stretches_of}
 use Rattle.gtp_check_course.specs.Questions.{IsQuestion, asks, given_asked, last_of, probes}
 use Rattle.gtp_check_course.specs.Scenes.{Acts, scene_of, scenes_of, turned, turned_act, turned_colour}
 use Rattle.gtp_check_course.specs.Stretches.{steps_of}
@@ -105,6 +106,12 @@ pub data AsksInTurn (lesson : Lesson) (part : ℕ) (board : Board) : ℕ → Lis
       → slice_get (stretches_of lesson part) number ≡ Some stretch → AsksAt stretch board 0 question
       → AsksInTurn lesson part board (number + 1) later → AsksInTurn lesson part board number (question ∷ later)
 
+-- ---- each lesson has a start of its own
+
+-- Each lesson but the first of all begins with a start of the engine, where it comes after another one.
+abbrev pub EachLessonBeginsAnew : Type 0
+EachLessonBeginsAnew = (now : Lesson) → 1 ≤ number_of now → slice_get (stretches_of now 0) 0 ≡ Some stretch.Fresh
+
 -- ---- each rule is asked after a handicap
 
 -- The stretch probes the point of each move of the board's scene, for Black and then for White.
@@ -116,7 +123,8 @@ ProbesEachMove stretch board = (number : ℕ) (act : Colour × ℕ × ℕ) → s
 -- Four stretches of the part come one right after the other. The board is cleared, and the game begins so, which its
 -- size allows; the moves of the scene are asked; and the points of these moves are probed in both colours: a play on a
 -- stone, where stones are or were taken, and where a play is ko or suicide.
-pub record AsksScene (lesson : Lesson) (part : ℕ) (begins : Question) (Allows : ℕ → Type 0) (board : Board) : Type 0 where
+pub record AsksScene (lesson : Lesson) (part : ℕ) (begins : Question) (Allows : ℕ → Type 0) (board : Board)
+    : Type 0 where
   pub allowed : Allows board.size
   pub number : ℕ
   pub clears : AsksInTurn lesson part board number (asks command.ClearBoard ∷ begins ∷ [])
@@ -175,8 +183,8 @@ pub record Seals (stretch : Stretch) (board : Board) (act : Colour × ℕ × ℕ
       → (step : ℕ) × AsksAt stretch board step (fills board act column row)
   pub only : (step : ℕ) → step < steps_of stretch → Fills stretch board act step
 
--- Ten stretches of the part come one right after the other. The board is cleared; a handicap is asked for, if the
--- game begins with one; the moves of the scene are asked, and the last of them, the act, is taken back; the act's colour
+-- Ten stretches of the part come one right after the other. The board is cleared; a handicap is asked for, if the game
+-- begins with one; the moves of the scene are asked, and the last of them, the act, is taken back; the act's colour
 -- fills the board; it acts, and nothing else is asked; and the engine is asked for a move of the other colour. That is
 -- taken back, the points of the scene's moves are probed, where the retake is, and the engine is asked again.
 pub record AsksForAnswer (lesson : Lesson) (part : ℕ) (board : Board) (act : Colour × ℕ × ℕ) : Type 0 where

@@ -2,8 +2,9 @@
 -- in chunks. How a user names them.
 use Rattle.std.specs.Prelude.{ℕ, ◌==◌, nat_lt, Bool, false, if◌then◌else◌, List, [], map, slice_get, unwrap_or}
 use Rattle.gtp_check_course.specs.declared.lessons.Lesson.{Lesson}
-use Rattle.gtp_check_course.specs.declared.lessons.Lesson.TheVariants.{Start, Placed, Errors, Sizes, Ko, Captures, Suicide, Joining}
-use Rattle.gtp_check_course.specs.declared.lessons.Lesson.TheVariants.{Handicaps, Komi, Drawn, Record, Genmoves}
+use Rattle.gtp_check_course.specs.declared.lessons.Lesson.TheVariants.{Start, Placed, Errors, Sizes, Ko, Captures}
+use Rattle.gtp_check_course.specs.declared.lessons.Lesson.TheVariants.{Suicide, Joining, Handicaps, Komi, Drawn, Record}
+use Rattle.gtp_check_course.specs.declared.lessons.Lesson.TheVariants.{Genmoves}
 use Rattle.gtp_check_course.specs.declared.lessons.Lesson.TheVariants.{Games, Restarts}
 use Rattle.gtp_check_course.specs.declared.stretches.Stretch.{Stretch}
 use Rattle.gtp_check_course.specs.declared.errors.TheConstants.{REQUIRED, UNKNOWN, NO_NUMBERS, NO_MOVES}

@@ -14,7 +14,7 @@ use Rattle.gtp_check_course.specs.declared.actions.Question.{Question}
 use Rattle.gtp_check_course.specs.declared.actions.Question.TheVariants as asked
 use Rattle.gtp_check_course.specs.declared.lessons.Lesson.{Lesson}
 use Rattle.gtp_check_course.specs.declared.stretches.Stretch.{Stretch}
-use Rattle.gtp_check_course.specs.Asking.{IsStep, IsTurn}
+use Rattle.gtp_check_course.specs.Asking.{IsStep, IsTurn, is_later}
 use Rattle.gtp_check_course.specs.Course.{Course, IsLeftOut}
 use Rattle.gtp_check_course.specs.Lessons.{stretches_of}
 use Rattle.gtp_check_course.specs.Openings.{opening_next}
@@ -49,7 +49,7 @@ IsTaken turn move = IsLegal turn.exam.game move.colour move.vertex
 
 -- Why a step is passed over: its command may not be asked, or is left out. A probe of a legal move is passed over where
 -- that may not be asked, or the engine isn't known to have `undo`. What asks nothing, and looks at what the engine took
--- at most, is always passed over, and a start never is.
+-- at most, is always passed over. A start never is, except where no lesson begins after another one.
 abbrev pub IsIdle : Turn → Question → Type 0
 IsIdle turn (asked.Ask command) = ¬ IsAskable turn command
 IsIdle turn (asked.Probe move) =
@@ -58,6 +58,7 @@ IsIdle turn (asked.Probe move) =
 IsIdle turn (asked.Size size) = Unit {0}
 IsIdle turn (asked.Found size) = Unit {0}
 IsIdle turn asked.Nothing = Unit {0}
+IsIdle turn asked.Fresh = is_later turn.old.place ≡ false
 IsIdle turn asked.Restart = ⊥
 IsIdle turn asked.Kill = ⊥
 
@@ -71,6 +72,7 @@ IsDone turn (asked.Probe move) =
 IsDone turn asked.Nothing = turn.action ≡ Skip
 IsDone turn (asked.Size size) = ⊥
 IsDone turn (asked.Found size) = ⊥
+IsDone turn asked.Fresh = turn.action ≡ Skip
 IsDone turn asked.Restart = ⊥
 IsDone turn asked.Kill = ⊥
 

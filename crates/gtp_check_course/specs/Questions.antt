@@ -17,7 +17,7 @@ use Rattle.gtp_wire.specs.declared.commands.Command.TheVariants as command
 use Rattle.gtp_check_judge.specs.declared.asking.CheckCommand.TheVariants.{Match, FinalScore, ListCommands}
 use Rattle.gtp_check_judge.specs.declared.asking.CheckCommand.TheVariants.{PlayInFull, GenmoveInFull, Faulty, Required}
 use Rattle.gtp_check_course.specs.declared.actions.Question.{Question}
-use Rattle.gtp_check_course.specs.declared.actions.Question.TheVariants.{Ask, Probe, Size, Found, Restart, Kill}
+use Rattle.gtp_check_course.specs.declared.actions.Question.TheVariants.{Ask, Probe, Size, Found, Fresh, Restart, Kill}
 use Rattle.gtp_check_course.specs.declared.actions.Question.TheVariants.{Nothing}
 use Rattle.gtp_check_course.specs.declared.boards.Board.{Board}
 use Rattle.gtp_check_course.specs.declared.draws.Draws.{Draws}
@@ -338,6 +338,7 @@ pub record Step : Type 0 where
 
 -- What a step of a stretch asks on this board, where the game is this one.
 abbrev pub IsQuestion : Stretch → Step → Board → GameRecord → Question → Type 0
+IsQuestion stretch.Fresh step board game question = question ≡ Fresh
 IsQuestion stretch.Seek step board game question = question ≡ seek_asked step.number board.is_sought
 IsQuestion stretch.Size step board game question = question ≡ asks (command.Boardsize board.size)
 IsQuestion stretch.Taken step board game question = question ≡ Size board.size

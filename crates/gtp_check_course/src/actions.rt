@@ -33,6 +33,8 @@ pub enum Question {
     Size(Size),
     /// Looks whether the engine accepted this size, which becomes the size of scenes if it did.
     Found(Size),
+    /// Restarts the engine after a `quit`, in the first part of each lesson but the first.
+    Fresh,
     /// Restarts the engine after a `quit`.
     Restart,
     /// Restarts the engine without a `quit`.

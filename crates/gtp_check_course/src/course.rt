@@ -70,7 +70,7 @@ impl Course {
     ghost use Rattle.gtp_check_course.specs.Boards.{IsBoard};
     ghost use Rattle.gtp_check_judge.specs.Exam.{HasRoomFor};
     ghost use Rattle.gtp_check_course.specs.Asking.{IsStep, IsTurn, Renews, Kills, Opens, Poses, Probes, Sees};
-    ghost use Rattle.gtp_check_course.specs.Asking.{Finds, Tries, call, draws_of, lesson_of};
+    ghost use Rattle.gtp_check_course.specs.Asking.{Finds, Freshens, Tries, call, draws_of, lesson_of};
     ghost use Rattle.gtp_check_course.specs.Openings.{opened};
     ghost use Rattle.gtp_check_course.specs.Course.{IsLeftOut, IsSuicide};
     ghost use Rattle.gtp_check_course.specs.Course.{begun, GoesTo, GoesOn, IsOver, IsRunning, Leaves};
@@ -104,9 +104,9 @@ impl Course {
     ///
     /// A step is passed over only if it asks nothing, if its command may not be asked although nothing is unanswered,
     /// if it is a suicide that isn't asked, or if it is a legal probe and the engine lacks `undo`. The course leaves a
-    /// part whose size the engine refused. The engine is ended and started again if a step says so, or if no more ids
-    /// are left, and only once it owes no reply. After ten findings in a lesson, or three losses of the engine, the
-    /// next lesson begins.
+    /// part whose size the engine refused. The engine is ended and started again at the beginning of each lesson but
+    /// the first, if a step says so, or if no more ids are left, and only once it owes no reply. After ten findings in
+    /// a lesson, or three losses of the engine, the next lesson begins.
     pub fn next(&mut self, examiner: &Examiner) -> Action
         ensures goes { GoesTo self.old examiner.now.exam result self.new }
         ensures over { IsOver self.old → result ≡ Done }
@@ -139,6 +139,7 @@ impl Course {
             Question::Probe(made) => self.probe(made, lesson, examiner),
             Question::Size(size) => self.note_size(size, lesson, examiner),
             Question::Found(size) => self.note_found(size, lesson, examiner),
+            Question::Fresh => self.freshen(lesson, examiner),
             Question::Restart => self.renew(lesson, examiner),
             Question::Kill => self.kill(lesson, examiner),
             Question::Nothing => self.skip(lesson),
@@ -368,6 +369,19 @@ impl Course {
         }
         self.go_on(lesson);
         Action::Restart
+    }
+
+    /// Restarts the engine after a `quit`, once it owes no reply, where a lesson begins after another one. So an engine
+    /// is asked the same in a lesson, whichever were asked before.
+    fn freshen(&mut self, lesson: Lesson, examiner: &Examiner) -> Action
+        requires { IsRunning self.old }
+        ensures goes { GoesTo self.old examiner.now.exam result self.new }
+        ensures freshens { Freshens (call lesson self.old examiner.now.exam) result self.new }
+    {
+        if self.place.lesson > 0 && self.place.part == 0 {
+            return self.renew(lesson, examiner);
+        }
+        self.skip(lesson)
     }
 
     /// Restarts the engine without a `quit`, once it owes no reply.

@@ -4,7 +4,8 @@ use crate::stretches::Stretch;
 use gtp_check_judge::{FaultyCommand, RequiredCommand};
 
 /// Commands that never fail. (The standard's topics protocol_version, name, version and known_command.)
-pub(crate) static REQUIRED: [Stretch; 5] = [
+pub(crate) static REQUIRED: [Stretch; 6] = [
+    Stretch::Fresh,
     Stretch::Seek,
     Stretch::Required(RequiredCommand::ProtocolVersion),
     Stretch::Required(RequiredCommand::Name),

@@ -4,7 +4,8 @@ use go_base::Colour;
 
 /// A long record, whose 1,024th move is undone at once; a ko late in a record of passes; and a ko that stays open for
 /// long.
-pub(crate) static RECORD: [Stretch; 38] = [
+pub(crate) static RECORD: [Stretch; 39] = [
+    Stretch::Fresh,
     Stretch::Seek,
     Stretch::Size,
     Stretch::Taken,
@@ -48,7 +49,8 @@ pub(crate) static RECORD: [Stretch; 38] = [
 /// Moves of the engine's own: in a game of them, on boards where hardly one is legal, and after a handicap. Then random
 /// points are probed, which shows whether its board has the moves that it chose. During the first game another size is
 /// asked for, which an engine may refuse.
-pub(crate) static GENMOVES: [Stretch; 33] = [
+pub(crate) static GENMOVES: [Stretch; 34] = [
+    Stretch::Fresh,
     Stretch::Seek,
     Stretch::Size,
     Stretch::Taken,
@@ -88,7 +90,8 @@ pub(crate) static GENMOVES: [Stretch; 33] = [
 /// another size. After each the points of the scene are asked: what was refused leaves the board as it is. (The
 /// standard's topics fixed_handicap and boardsize. A match asks for neither during a game, so a bug there is against
 /// the standard alone.)
-pub(crate) static GAMES: [Stretch; 54] = [
+pub(crate) static GAMES: [Stretch; 55] = [
+    Stretch::Fresh,
     Stretch::Seek,
     Stretch::Size,
     Stretch::Taken,
@@ -147,7 +150,8 @@ pub(crate) static GAMES: [Stretch; 54] = [
 
 /// The same again after a `quit`, and after an end without it. The scores of the last start are compared with one
 /// another: what an engine keeps of the two starts before shows there.
-pub(crate) static RESTARTS: [Stretch; 52] = [
+pub(crate) static RESTARTS: [Stretch; 53] = [
+    Stretch::Fresh,
     Stretch::Seek,
     Stretch::Size,
     Stretch::Taken,

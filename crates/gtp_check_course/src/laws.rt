@@ -1,6 +1,6 @@
 //! Laws of the course. Each is the contract of a function that does nothing.
 ghost use Rattle.gtp_check_course.specs.Laws.{EveryCourseIsBounded, EachKoIsAnswered, NoSuicideIsAsked};
-ghost use Rattle.gtp_check_course.specs.Laws.{EachRuleIsAskedInBoth};
+ghost use Rattle.gtp_check_course.specs.Laws.{EachLessonBeginsAnew, EachRuleIsAskedInBoth};
 ghost use Rattle.gtp_check_course.specs.Posing.{EachQuestionIsAsked};
 
 /// Whatever is answered, and whenever a part is left: the commands that are asked, the steps that are passed over and
@@ -21,18 +21,23 @@ pub fn no_suicide_is_asked()
     ensures { NoSuicideIsAsked }
 {}
 
-/// Each scene of the lessons `ko`, `captures`, `suicide` and `joining` is asked in a game without a handicap, and in one
-/// that begins with two handicap stones, on a board that allows them. Right after that come the moves of the scene, and
-/// then a play of each colour on the point of each of them.
+/// Each lesson but `start` begins with a start of the engine, where it comes after another one.
+pub fn each_lesson_begins_anew()
+    ensures { EachLessonBeginsAnew }
+{}
+
+/// Each scene of the lessons `ko`, `captures`, `suicide` and `joining` is asked in a game without a handicap, and in
+/// one that begins with two handicap stones, on a board that allows them. Right after that come the moves of the scene,
+/// and then a play of each colour on the point of each of them.
 pub fn each_rule_is_asked_in_both()
     ensures { EachRuleIsAskedInBoth }
 {}
 
-/// Each part of the lesson `ko` has a ko: the last move of its scene, the act, takes one stone by a stone alone that has
-/// no other liberty then. The board is cleared, the moves of the scene are asked, and the act is undone. Then its colour
-/// fills the board except for the act's point, two gaps and the far corner, and acts. Right after that the engine is
-/// asked for a move of the other colour. That is undone, the points of the scene's moves are probed, where the retake is,
-/// and the engine is asked for the move again.
+/// Each part of the lesson `ko` has a ko: the last move of its scene, the act, takes one stone by a stone alone that
+/// has no other liberty then. The board is cleared, the moves of the scene are asked, and the act is undone. Then its
+/// colour fills the board except for the act's point, two gaps and the far corner, and acts. Right after that the
+/// engine is asked for a move of the other colour. That is undone, the points of the scene's moves are probed, where
+/// the retake is, and the engine is asked for the move again.
 pub fn each_ko_is_answered()
     ensures { EachKoIsAnswered }
 {}

@@ -39,6 +39,8 @@ const LINES: u32 = 6;
 /// Steps of one kind, one after the other.
 #[derive(Clone, Copy, Debug, PartialEq, Eq)]
 pub enum Stretch {
+    /// A restart after a `quit`, where a lesson begins after another one.
+    Fresh,
     /// As long as no size of scenes is known, `boardsize` with each size from 5, until one is accepted.
     Seek,
     /// `boardsize`, with the part's size.
@@ -152,7 +154,8 @@ impl Stretch {
         ensures few { result ≤ most_steps }
     {
         match self {
-            Stretch::Size
+            Stretch::Fresh
+            | Stretch::Size
             | Stretch::Taken
             | Stretch::OtherSize
             | Stretch::OtherTaken
@@ -205,6 +208,7 @@ impl Stretch {
             board.now game.now result }
     {
         match self {
+            Stretch::Fresh => Question::Fresh,
             Stretch::Seek => seek(step, board.is_sought),
             Stretch::Size => ask(Command::Boardsize(board.size)),
             Stretch::Taken => Question::Size(board.size),

@@ -16,7 +16,8 @@ use go_base::Colour;
 /// board.
 ///
 /// A probe is undone itself, and an `undo` after it may fail. So only a move that is undone at once tests `undo`.
-pub(crate) static SCENE: [Stretch; 36] = [
+pub(crate) static SCENE: [Stretch; 37] = [
+    Stretch::Fresh,
     Stretch::Seek,
     Stretch::Size,
     Stretch::Taken,
@@ -58,9 +59,10 @@ pub(crate) static SCENE: [Stretch; 36] = [
 /// What the lesson `ko` asks: the same, and more about how a ko ends and comes back. A pass of the colour that captured
 /// ends it, after a move elsewhere and by itself. It comes back with a second `undo`, if that succeeds. At last the
 /// engine has to choose a move of the colour that may not retake, when it has hardly another one, and once more after
-/// that move is undone. (The rules of play, topic ko; the standard's topics undo and genmove. A bug in each of these can
-/// spoil a match, or what is played out on a program's board.)
-pub(crate) static KO: [Stretch; 54] = [
+/// that move is undone. (The rules of play, topic ko; the standard's topics undo and genmove. A bug in each of these
+/// can spoil a match, or what is played out on a program's board.)
+pub(crate) static KO: [Stretch; 55] = [
+    Stretch::Fresh,
     Stretch::Seek,
     Stretch::Size,
     Stretch::Taken,
@@ -118,7 +120,8 @@ pub(crate) static KO: [Stretch; 54] = [
 ];
 
 /// The same if the act is refused: it is no move, so one `undo` undoes what came after it.
-pub(crate) static REFUSED: [Stretch; 33] = [
+pub(crate) static REFUSED: [Stretch; 34] = [
+    Stretch::Fresh,
     Stretch::Seek,
     Stretch::Size,
     Stretch::Taken,
@@ -184,7 +187,8 @@ pub(crate) static START: [Stretch; 23] = [
 /// Moves of the engine's own on an empty board, for White and for Black; for Black right after a move of Black; and two
 /// in a row for White. Nobody may play on their points. Then the other colour surrounds them, and may play there, since
 /// they are captured: a stone of the wrong colour isn't. (The standard's topic genmove. A bug spoils a match.)
-pub(crate) static PLACED: [Stretch; 31] = [
+pub(crate) static PLACED: [Stretch; 32] = [
+    Stretch::Fresh,
     Stretch::Seek,
     Stretch::Size,
     Stretch::Taken,
@@ -250,7 +254,8 @@ pub(crate) static LIST: [Stretch; 2] = [Stretch::Seek, Stretch::List];
 
 /// Each point of a size. Then a full board, of which everything is captured at once. With its stones the size of scenes
 /// is asked for, which most are larger than; an engine may refuse that during a game.
-pub(crate) static SIZES: [Stretch; 23] = [
+pub(crate) static SIZES: [Stretch; 24] = [
+    Stretch::Fresh,
     Stretch::Size,
     Stretch::Taken,
     Stretch::Komi,
@@ -278,7 +283,8 @@ pub(crate) static SIZES: [Stretch; 23] = [
 
 /// A handicap after one that is refused, and with moves on its points. Only moves are undone. There is one score of
 /// each size. None comes out three times in a row here: of three hundred parts some would by chance.
-pub(crate) static HANDICAPS: [Stretch; 25] = [
+pub(crate) static HANDICAPS: [Stretch; 26] = [
+    Stretch::Fresh,
     Stretch::Size,
     Stretch::Taken,
     Stretch::Komi,
@@ -309,7 +315,8 @@ pub(crate) static HANDICAPS: [Stretch; 25] = [
 /// Komis, by the scores of empty boards: the first score is asked for three times, with a stone in between, and the
 /// others have to differ from it as the komis do. In the middle of a game the engine is asked for a komi that no float
 /// of 32 bits represents, and then for the points of the scene.
-pub(crate) static KOMI: [Stretch; 43] = [
+pub(crate) static KOMI: [Stretch; 44] = [
+    Stretch::Fresh,
     Stretch::Seek,
     Stretch::Size,
     Stretch::Taken,
@@ -382,7 +389,8 @@ pub(crate) static KOMI_OF_HANDICAPS: [Stretch; 21] = [
 ];
 
 /// A random game, with probes. It ends on a cleared board: an engine may refuse the next part's size during a game.
-pub(crate) static DRAWN: [Stretch; 9] = [
+pub(crate) static DRAWN: [Stretch; 10] = [
+    Stretch::Fresh,
     Stretch::Seek,
     Stretch::Size,
     Stretch::Taken,

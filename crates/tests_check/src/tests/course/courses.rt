@@ -148,7 +148,7 @@ impl Talk {
 /// An engine of all sizes or of one, which may be without `undo`; the least number of commands that it is asked; how
 /// often it is started and killed, where that is known; and the least number of moves that each lesson asks of it.
 static COURSES: [(Option<u32>, bool, u32, (Option<u32>, Option<u32>), u32); 4] = [
-    (None, true, 100_001, (Some(13), Some(5)), 0),
+    (None, true, 100_001, (Some(27), Some(5)), 0),
     // A size that no list has.
     (Some(6), true, 0, (None, Some(1)), 8),
     (Some(19), true, 50_001, (None, None), 0),
