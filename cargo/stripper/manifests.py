@@ -16,7 +16,7 @@ OTHERS = {
 }
 # The crates that cargo builds where none is named.
 BUILT = ("gtp_check", "gtp_engine", "twogtp", "vintsaky")
-SHIMMED = ("rand_core", "clap")
+SHIMMED = ("rand_core", "clap", "libc")
 SHIMS = ("kit_ffi", "kit_simd", "kit_std")
 # Why each lint of clippy is allowed. The sources are proved as they are, and a change has to make
 # them better in itself.

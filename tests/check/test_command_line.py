@@ -96,7 +96,7 @@ def test_help_has_the_statuses(gtp_check: Path) -> None:
         run([gtp_check, "--help"]),
         "0 no complaint: each lesson was completed, with a move answered correctly "
         "1 at least one complaint",
-        "patience before its command",
+        "Without --timeout there is no limit",
     )
 
 

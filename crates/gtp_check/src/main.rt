@@ -7,7 +7,7 @@ use cli::words::arguments;
 use gtp_check_app::failure::NAME;
 use gtp_check_app::run::run;
 use gtp_check_app::streams::Streams;
-use gtp_process::SystemStarter;
+use gtp_process::{SystemStarter, TimedStarter};
 use std::io::IsTerminal;
 use std::process::ExitCode;
 
@@ -32,11 +32,11 @@ fn check_by(rt: &HostRuntime) -> u8 {
                 output: rt.stdout(),
                 errors: rt.stderr(),
             },
-            &mut SystemStarter {
+            &mut TimedStarter::new(SystemStarter {
                 alloc: rt.alloc(),
                 system: rt,
                 errors: rt.stderr(),
-            },
+            }),
         ),
         Err(error) => report_arguments(NAME, error.kind(), &mut rt.stderr()),
     }

@@ -41,7 +41,7 @@ abbrev pub program : App
 program = with_rule (program_named (codes "gtp_check")) (word_rule (codes "CMD"))
 
 -- `[--size N] [--ko simple|positional] [--suicide forbidden|unasked] [--seed N] [--quick] [--only LESSON]..`, and
--- `[--skip LESSON].. [--list] [--singly] [--restarts N] [--trials N]`
+-- `[--skip LESSON].. [--list] [--singly] [--restarts N] [--trials N] [--timeout SECONDS] [--start-timeout SECONDS]`
 abbrev pub options : KeptNames → List Rule
 options names =
     maybe_number_rule (codes "size") (pos 5) (pos 25)
@@ -55,6 +55,8 @@ options names =
     ∷ flag_rule (codes "singly")
     ∷ number_rule (codes "restarts") (pos 0) (pos 1000) (codes "200")
     ∷ number_rule (codes "trials") (pos 0) (pos 1000) (codes "60")
+    ∷ maybe_number_rule (codes "timeout") (pos 1) (pos 86400)
+    ∷ maybe_number_rule (codes "start-timeout") (pos 1) (pos 86400)
     ∷ []
 
 -- the engine's command, and all options in the order of the help
@@ -93,6 +95,8 @@ pub record Ask (rows : List Row) (options : Options) : Type 0 where
   pub singly : HasFlag (codes "singly") rows options.singly
   pub restarts : HasNumber (codes "restarts") rows options.restarts
   pub trials : HasNumber (codes "trials") rows options.trials
+  pub timeout : HasNumber (codes "timeout") rows options.timeout
+  pub start_timeout : HasNumber (codes "start-timeout") rows options.start_timeout
 
 -- the words of a command line have no mistake, and ask for these options
 pub record AsksFor (words : List Text) (options : Options) : Type 0 where

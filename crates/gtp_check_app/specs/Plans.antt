@@ -1,6 +1,6 @@
 -- What the options of a check come to. (Own.)
 use Rattle.std.specs.Prelude.{◌≡◌, ◌≢◌, ℕ, ◌==◌, ◌&&◌, ◌||◌, not, Bool, true, false, List, [], Option, None, Some}
-use Rattle.std.specs.Prelude.{map, filter, length}
+use Rattle.std.specs.Prelude.{map, filter, length, if◌then◌else◌}
 use Rattle.std.specs.Borrow.{Bor}
 use Rattle.std.specs.List.{list_any}
 use Rattle.clap.specs.Words.{Text}
@@ -19,6 +19,7 @@ use Rattle.cli.specs.declared.failure.PlanError.TheVariants.{BadWords, OutOfMemo
 use Rattle.gtp_check_talk.specs.Among.{is_among}
 use Rattle.gtp_check_app.specs.declared.options.Options.{Options}
 use Rattle.gtp_check_course.specs.declared.plan.Plan.{Plan}
+use Rattle.gtp_process.specs.declared.patience.Limits.{Limits}
 
 -- the command of an engine: the words of its text, which is split at spaces
 abbrev pub IsCommand : Text → List (Bor Text) → Type 0
@@ -80,3 +81,19 @@ HasNoPlan options (BadWords NoCommand) = words options.command.now ≡ []
 HasNoPlan options (BadWords NoLesson) =
     (words options.command.now ≢ []) × (filter (is_chosen options) all_lessons ≡ [])
 HasNoPlan options OutOfMemory = Unit {0}
+
+-- ---- the limits
+
+-- a limit of so many seconds, where they are given
+abbrev pub limit_of : ℕ → Option ℕ
+limit_of seconds = if seconds == 0 then None else Some seconds
+
+-- the limit of the first answer after a start: its own, where it is given, and else that of all
+abbrev pub first_limit : ℕ → ℕ → Option ℕ
+first_limit start all = if start == 0 then limit_of all else Some start
+
+abbrev pub limits_of : Options → Limits
+limits_of options = record {
+  first = first_limit options.start_timeout options.timeout;
+  later = limit_of options.timeout;
+}

@@ -10,6 +10,7 @@ mod check;
 mod closing;
 mod complaining;
 pub mod failure;
+mod limits;
 pub mod laws;
 pub mod options;
 pub mod plan;

@@ -25,8 +25,7 @@ Each complaint is a block of lines: what was wrong, and the commands that led
 to it, often fewer than were sent. Lines that begin with # are comments, so
 you can paste a block into the engine as it is.
 The last line is: check: N commands, M starts, K complaints
-There is no timeout: gtp_check waits for an engine that hangs. With
-patience before its command, the engine is ended when a reply takes too long.
+Without --timeout there is no limit: gtp_check waits for an engine that hangs.
 
 Status:
   0  no complaint: each lesson was completed, with a move answered correctly
@@ -67,15 +66,19 @@ pub struct Options<'a> {
     pub restarts: u32,
     /// How many shorter conversations may be tried for a complaint, 0 to 1,000.
     pub trials: u32,
+    /// The most seconds for an answer, 1 to 86,400; 0 if it isn't given.
+    pub timeout: u32,
+    /// The most seconds for the first answer after a start, 1 to 86,400; 0 if it isn't given.
+    pub start_timeout: u32,
 }
 
 /// The options, in the order of the help.
-static OPTIONS: [OptionRow<'static>; 11] = [
+static OPTIONS: [OptionRow<'static>; 13] = [
     OptionRow {
         name: "size",
         takes: Takes::MaybeNumber("N", 5, 25),
-        help: "Board size for set-up positions, 5 to 25 [default: the\n\
-            smallest from 5 that the engine accepts]",
+        help: "Board size for set-up positions, 5 to 25 [default:\n\
+            the smallest from 5 that the engine accepts]",
     },
     OptionRow {
         name: "ko",
@@ -85,8 +88,8 @@ static OPTIONS: [OptionRow<'static>; 11] = [
     OptionRow {
         name: "suicide",
         takes: Takes::Name("RULE", &["forbidden", "unasked"], "forbidden"),
-        help: "Suicide rule: forbidden, or unasked (never sent as play,\n\
-            and not judged if genmove plays it)",
+        help: "Suicide rule: forbidden, or unasked (never sent, and\n\
+            not judged in a genmove)",
     },
     OptionRow {
         name: "seed",
@@ -126,8 +129,19 @@ static OPTIONS: [OptionRow<'static>; 11] = [
     OptionRow {
         name: "trials",
         takes: Takes::Number("N", 0, 1000, "60"),
-        help: "Shorter conversations to try per complaint, 0 to 1000;\n\
-            with 0 each is shown whole",
+        help: "Shorter conversations to try per complaint, 0 to\n\
+            1000; with 0 each is shown whole",
+    },
+    OptionRow {
+        name: "timeout",
+        takes: Takes::MaybeNumber("N", 1, 86400),
+        help: "Seconds for an answer, 1 to 86400 [default: none]",
+    },
+    OptionRow {
+        name: "start-timeout",
+        takes: Takes::MaybeNumber("N", 1, 86400),
+        help: "Seconds for the first answer after a start, 1 to\n\
+            86400 [default: the limit of all answers]",
     },
 ];
 
@@ -163,6 +177,8 @@ fn options_of<'a>(matches: &ArgMatches<'a>) -> Options<'a>
         singly: flag_at(matches, "singly"),
         restarts: number_at(matches, "restarts"),
         trials: number_at(matches, "trials"),
+        timeout: number_at(matches, "timeout"),
+        start_timeout: number_at(matches, "start-timeout"),
     }
 }
 

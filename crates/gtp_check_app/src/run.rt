@@ -13,6 +13,7 @@ ghost use Rattle.gtp_check_app.specs.private.Answering.{IsAnswered, Lists};
 
 use crate::check::Check;
 use crate::failure::NAME;
+use crate::limits::limits_of;
 use crate::options::read_options;
 use crate::plan::plan_of;
 use crate::progress::clear;
@@ -26,7 +27,7 @@ use go_base::push;
 use gtp_check_course::Plan;
 use gtp_check_texts::listing::list_text;
 use gtp_check_texts::summary::Over;
-use gtp_process::{Starter, Unstarted, push_unstarted};
+use gtp_process::{LimitedStarter, Starter, Unstarted, push_unstarted};
 use std::alloc::{AllocError, Global};
 use std::convert::AsStr;
 
@@ -44,7 +45,7 @@ use std::convert::AsStr;
 /// It writes the reason of a status of 2 or 3 to standard error; whether that can be written changes nothing. With
 /// `shows_progress`, standard error is a terminal: it also shows there what it waits for. Each progress line replaces
 /// the one before, and is cleared before anything else is written.
-pub fn run<A: AsStr, O: WriteOnce, E: WriteOnce, S: Starter>(
+pub fn run<A: AsStr, O: WriteOnce, E: WriteOnce, S: LimitedStarter>(
     alloc: Global,
     words: &[A],
     shows_progress: bool,
@@ -67,6 +68,7 @@ pub fn run<A: AsStr, O: WriteOnce, E: WriteOnce, S: Starter>(
         Ok(plan) => plan,
         Err(error) => return error.report(NAME, &mut streams.errors),
     };
+    starter.limit(limits_of(&options));
     match check(alloc, &plan, streams, starter) {
         Ok(status) => status,
         Err(failure) => failure.report(NAME, &mut streams.errors),

@@ -7,8 +7,9 @@ use Rattle.std.specs.List.{concat, list_any}
 use Rattle.std.specs.Prelude.{option_map}
 use Rattle.gtp_check_course.specs.Lessons.{is_in_pieces, name_of}
 use Rattle.go_base.specs.Bytes.{space}
-use Rattle.gtp_process.specs.Shown.{ending_text, quoted}
+use Rattle.gtp_process.specs.Shown.{ending_text, late_text, quoted}
 use Rattle.gtp_process.specs.declared.starter.Ending.{Ending}
+use Rattle.gtp_process.specs.declared.starter.Ending.TheVariants.{Late}
 use Rattle.gtp_wire.specs.Replies.{most_shown}
 use Rattle.gtp_check_texts.specs.reasons.Kinds.{fault_text}
 use Rattle.gtp_check_judge.specs.declared.asking.CheckCommand.{CheckCommand}
@@ -49,13 +50,21 @@ abbrev pub ended_text : Fault → Ending → List ℕ
 ended_text (Wrote kind) ending = []
 ended_text (CutOff cause) ending = ending_text ending
 
+-- what was wrong: of a late answer that it was late, and else the fault, and how the process ended where it was lost
+abbrev pub wrong_by : Fault → Ending → Bool → List ℕ
+wrong_by (CutOff cause) (Late seconds) within = concat (codes "\": " ∷ late_text seconds ∷ codes "\n" ∷ [])
+wrong_by fault ending within =
+    concat (codes "\": " ∷ fault_text fault ∷ within_text within ∷ ended_text fault ending ∷ codes "\n" ∷ [])
+
+abbrev pub wrong_text : Complaint → List ℕ
+wrong_text complaint =
+    wrong_by complaint.fault complaint.ending (is_within complaint.fault complaint.wrote.now)
+
 -- the number, the lesson, the faulty command and what was wrong
 abbrev pub head_line : Complaint → List ℕ
-head_line complaint = concat (
-    codes "# " ∷ decimal complaint.number ∷ codes " " ∷ name_of complaint.lesson ∷
-    codes ": \"" ∷ faulty_line complaint ∷ codes "\": " ∷
-    fault_text complaint.fault ∷ within_text (is_within complaint.fault complaint.wrote.now) ∷
-    ended_text complaint.fault complaint.ending ∷ codes "\n" ∷ [])
+head_line complaint =
+    concat (codes "# " ∷ decimal complaint.number ∷ codes " " ∷ name_of complaint.lesson ∷ codes ": \"" ∷ [])
+    ++ (faulty_line complaint ++ wrong_text complaint)
 
 -- the beginning of what the engine wrote
 abbrev pub wrote_line : List ℕ → List ℕ

@@ -3,14 +3,14 @@ ghost use Rattle.std.specs.Prelude.{◌≡◌, ◌≤◌, ◌+◌, ◌++◌, len
 ghost use Rattle.std.specs.List.{list_any};
 ghost use Rattle.go_base.specs.Bytes.{newline, space};
 ghost use Rattle.std.specs.Io.BufRead.{strip_last};
-ghost use Rattle.gtp_process.specs.Shown.{quoted};
+ghost use Rattle.gtp_process.specs.Shown.{late_text, quoted};
 ghost use Rattle.gtp_wire.specs.Replies.{most_shown};
 ghost use Rattle.gtp_check_texts.specs.Complaints.{in_a_row};
 ghost use Rattle.gtp_check_texts.specs.reasons.Answers.{before_rule};
 ghost use Rattle.gtp_check_texts.specs.Complaints.{ahead_lines, answer_of, asked_lines, board_lines};
 ghost use Rattle.gtp_check_texts.specs.Complaints.{complaint_lines, ended_text, faulty_said, head_line, is_within};
 ghost use Rattle.gtp_check_texts.specs.Complaints.{ko_line, may_run_on, pieces_line, rule_line, rule_of};
-ghost use Rattle.gtp_check_texts.specs.Complaints.{shown_before, explained, within_text, wrote_line};
+ghost use Rattle.gtp_check_texts.specs.Complaints.{shown_before, explained, within_text, wrong_text, wrote_line};
 ghost use Rattle.gtp_check_texts.specs.Conversation.{after_lines, asked_line, before_lines, faulty_line, line_end};
 ghost use Rattle.gtp_check_texts.specs.Conversation.{line_of, line_start, lines_to};
 ghost use Rattle.gtp_check_texts.specs.reasons.Rules.{rule_text};
@@ -29,7 +29,7 @@ use go_board::Game;
 use gtp_check_course::Lesson;
 use gtp_check_judge::CheckCommand;
 use gtp_check_talk::{Fault, Said, said_at};
-use gtp_process::{Ending, PipeCause, push_ending, push_quoted};
+use gtp_process::{Ending, PipeCause, push_ending, push_late, push_quoted};
 use gtp_wire::MOST_SHOWN;
 use std::alloc::{AllocError, Global};
 
@@ -254,16 +254,37 @@ fn add_head(text: &mut Vec<u8>, complaint: &Complaint<'_>) -> Result<(), AllocEr
         ],
     )?;
     text.extend_from_slice(complaint.faulty_line())?;
-    add_all(
-        text,
-        &[
-            b"\": ",
-            fault_text(complaint.fault),
-            within_text(complaint.is_within()),
-            &ended_text(complaint.fault, complaint.ending),
-            b"\n",
-        ],
-    )
+    add_wrong(text, complaint)
+}
+
+/// Appends what was wrong: of a late answer only that, and otherwise also how the process ended, if it was lost.
+fn add_wrong(text: &mut Vec<u8>, complaint: &Complaint<'_>) -> Result<(), AllocError>
+    ensures { OnOk result (text.new.items ≡ text.old.items ++ wrong_text complaint.now) }
+{
+    match (complaint.fault, complaint.ending) {
+        (Fault::CutOff(_), Ending::Late(seconds)) => {
+            add_all(text, &[b"\": ", &late_text(seconds), b"\n"])
+        }
+        (fault, ending) => add_all(
+            text,
+            &[
+                b"\": ",
+                fault_text(fault),
+                within_text(complaint.is_within()),
+                &ended_text(fault, ending),
+                b"\n",
+            ],
+        ),
+    }
+}
+
+/// Returns that there was no answer within this many seconds.
+fn late_text(seconds: u32) -> ArrayVec<u8, 31>
+    ensures { result.items ≡ late_text seconds }
+{
+    let mut text = ArrayVec::new();
+    push_late(&mut text, seconds);
+    text
 }
 
 /// Returns whether something is written that isn't blank.
@@ -281,7 +302,7 @@ fn within_text(is_within: bool) -> &'static [u8]
 }
 
 /// Returns how the process ended, if that is what was wrong.
-fn ended_text(fault: Fault, ending: Ending) -> ArrayVec<u8, 24>
+fn ended_text(fault: Fault, ending: Ending) -> ArrayVec<u8, 33>
     ensures { result.items ≡ ended_text fault ending }
 {
     let mut text = ArrayVec::new();

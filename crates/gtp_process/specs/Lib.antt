@@ -3,3 +3,5 @@ pub mod Starts
 pub mod Endings
 pub mod Quitting
 pub mod Shown
+pub mod Waiting
+pub mod Laws

@@ -9,7 +9,7 @@ use Rattle.gtp_process.specs.declared.causes.PipeCause.{PipeCause}
 use Rattle.gtp_process.specs.declared.causes.PipeCause.TheVariants.{Writing, Reading, Ended}
 use Rattle.gtp_process.specs.declared.causes.Unstarted.{Unstarted}
 use Rattle.gtp_process.specs.declared.starter.Ending.{Ending}
-use Rattle.gtp_process.specs.declared.starter.Ending.TheVariants.{Unknown, Status, Signal, Running}
+use Rattle.gtp_process.specs.declared.starter.Ending.TheVariants.{Unknown, Status, Signal, Running, Late}
 use Rattle.gtp_process.specs.declared.starter.StartReason.{StartReason}
 use Rattle.gtp_process.specs.declared.starter.StartReason.TheVariants as reason
 use Rattle.gtp_process.specs.Starts.{Text, first_word}
@@ -60,12 +60,21 @@ pipe_text Writing = codes "writing failed"
 pipe_text Reading = codes "reading failed"
 pipe_text Ended = codes "its output ended"
 
+-- the word after a number of seconds
+abbrev pub unit_text : ℕ → List ℕ
+unit_text seconds = if seconds == 1 then codes " second" else codes " seconds"
+
+-- that it didn't answer within so many seconds
+abbrev pub late_text : ℕ → List ℕ
+late_text seconds = codes "no answer in " ++ (decimal seconds ++ unit_text seconds)
+
 -- how its process ended, where that is known
 abbrev pub ending_text : Ending → List ℕ
 ending_text Unknown = []
 ending_text (Status number) = codes ", exit status " ++ decimal number
 ending_text (Signal number) = codes ", signal " ++ decimal number
 ending_text Running = codes ", but it ran on"
+ending_text (Late seconds) = codes ", " ++ late_text seconds
 
 -- ---- a program that was not started
 

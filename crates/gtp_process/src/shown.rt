@@ -2,8 +2,8 @@
 ghost use Rattle.std.specs.Prelude.{◌≡◌, ◌+◌, ◌*◌, ◌<◌, ◌≤◌, ◌++◌, length};
 ghost use Rattle.arrayvec.specs.ArrayVec.{array_vec_len};
 ghost use Rattle.std.specs.Fmt.{decimal};
-ghost use Rattle.gtp_process.specs.Shown.{ending_text, hex_digit, pipe_text, quoted, reason_text, shown_byte};
-ghost use Rattle.gtp_process.specs.Shown.{shown_bytes, unstarted_text};
+ghost use Rattle.gtp_process.specs.Shown.{ending_text, hex_digit, late_text, pipe_text, quoted, reason_text};
+ghost use Rattle.gtp_process.specs.Shown.{shown_byte, shown_bytes, unit_text, unstarted_text};
 
 use crate::causes::{PipeCause, Unstarted};
 use crate::starter::{Ending, StartReason};
@@ -52,11 +52,11 @@ pub fn pipe_text(cause: PipeCause) -> &'static [u8]
     }
 }
 
-/// Appends how a process ended, if that is known: at most 24 bytes.
+/// Appends how a process ended, if that is known: at most 33 bytes.
 pub fn push_ending<const ROOM: usize>(line: &mut ArrayVec<u8, ROOM>, ending: Ending)
-    requires { array_vec_len line.old + 24 ≤ ROOM }
+    requires { array_vec_len line.old + 33 ≤ ROOM }
     ensures bytes { line.new.items ≡ line.old.items ++ ending_text ending }
-    ensures len { array_vec_len line.new ≤ array_vec_len line.old + 24 }
+    ensures len { array_vec_len line.new ≤ array_vec_len line.old + 33 }
 {
     match ending {
         Ending::Unknown => {}
@@ -69,6 +69,33 @@ pub fn push_ending<const ROOM: usize>(line: &mut ArrayVec<u8, ROOM>, ending: End
             push(line, &write_int(number));
         }
         Ending::Running => push(line, b", but it ran on"),
+        Ending::Late(seconds) => {
+            push(line, b", ");
+            push_late(line, seconds);
+        }
+    }
+}
+
+/// Appends that a process didn't answer within this many seconds: at most 31 bytes.
+pub fn push_late<const ROOM: usize>(line: &mut ArrayVec<u8, ROOM>, seconds: u32)
+    requires { array_vec_len line.old + 31 ≤ ROOM }
+    ensures bytes { line.new.items ≡ line.old.items ++ late_text seconds }
+    ensures len { array_vec_len line.new ≤ array_vec_len line.old + 31 }
+{
+    push(line, b"no answer in ");
+    push(line, &write_int(seconds));
+    push(line, unit_text(seconds));
+}
+
+/// Returns the word after a number of seconds.
+fn unit_text(seconds: u32) -> &'static [u8]
+    ensures text { result.now ≡ unit_text seconds }
+    ensures few { length result.now ≤ 8 }
+{
+    if seconds == 1 {
+        b" second"
+    } else {
+        b" seconds"
     }
 }
 

@@ -51,6 +51,8 @@ pub enum Ending {
     Signal(u32),
     /// It was still running, and this program killed it.
     Running,
+    /// It didn't answer within this many seconds, and this program killed it.
+    Late(u32),
 }
 
 /// Starts processes.

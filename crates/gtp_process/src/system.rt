@@ -14,6 +14,7 @@ use std::alloc::Global;
 use std::cell::Cell;
 use std::io;
 use std::io::{ErrorKind, Read, Stderr, Write};
+use std::os::fd::{AsRawFd, RawFd};
 use std::os::unix::process::ExitStatusExt;
 use std::process::{Child, Command, ExitStatus, OpenProcess, Processes, Stdio};
 use std::time::{Clock, Duration};
@@ -162,6 +163,38 @@ fn kind_reason(kind: ErrorKind) -> StartReason
         ErrorKind::WouldBlock => StartReason::NoProcesses,
         ErrorKind::Uncategorized => StartReason::NoProgram,
         _ => StartReason::Other,
+    }
+}
+
+impl<P: OpenProcess, C> SystemProcess<P, C> {
+    /// Returns the number of the pipe to its standard input, if there is one.
+    pub fn input_number(&self) -> Option<RawFd>
+    where
+        P::Stdin: AsRawFd,
+    {
+        match &self.child.stdin {
+            Some(stdin) => Some(stdin.as_raw_fd()),
+            None => None,
+        }
+    }
+
+    /// Returns the number of the pipe from its standard output, if there is one.
+    pub fn output_number(&self) -> Option<RawFd>
+    where
+        P::Stdout: AsRawFd,
+    {
+        match &self.child.stdout {
+            Some(stdout) => Some(stdout.as_raw_fd()),
+            None => None,
+        }
+    }
+
+    /// Returns whether it has exited. What it started may still hold its pipes then.
+    pub fn has_exited(&mut self) -> bool {
+        match self.child.try_wait() {
+            Ok(Some(_)) => true,
+            Ok(None) | Err(_) => false,
+        }
     }
 }
 

@@ -24,11 +24,13 @@ no_move_rule None = kind_sentence NoMove
 abbrev pub late : ℕ
 late = 124
 
--- the rule where an answer was lost, and the process ended so: by that status, or otherwise
+-- the rule where an answer was lost, and the process ended so: it was late, by that status or by itself, or otherwise
 abbrev pub lost_rule : Ending → List ℕ
 lost_rule (ended.Status status) =
     if status == late then codes "an engine answers in time: does it flush each answer, and end it with an empty line?"
     else codes "an engine answers each command, and reads on until quit"
+lost_rule (ended.Late seconds) =
+    codes "an engine answers in time: does it flush each answer, and end it with an empty line?"
 lost_rule _ = codes "an engine answers each command, and reads on until quit"
 
 -- what a right engine answers to the command, and the rule that says so, in whatever game

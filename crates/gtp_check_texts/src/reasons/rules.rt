@@ -27,7 +27,7 @@ fn lost_rule(ending: Ending) -> &'static [u8]
     ensures { result.now ≡ lost_rule ending }
 {
     match ending {
-        Ending::Status(LATE) => {
+        Ending::Status(LATE) | Ending::Late(_) => {
             b"an engine answers in time: does it flush each answer, and end it with an empty line?"
         }
         _ => b"an engine answers each command, and reads on until quit",

@@ -36,7 +36,7 @@ returns-in-Ok-check-clause-ran g c =
       no_list = c.if-options.false;
       come_to = c.in-Ok-plan_of.ensures.plan;
     })
-    c.in-Ok-check.ensures
+    (rw c.limit.ensures at c.in-Ok-check.ensures)
 
 pub returns-clause-ran : goal.returns-clause-ran
 returns-clause-ran g c =
@@ -48,7 +48,7 @@ returns-clause-ran g c =
       no_list = c.if-options.false;
       come_to = c.in-Ok-plan_of.ensures.plan;
     })
-    c.in-Err-check.ensures c.report-in-Err-check.ensures.written)
+    (rw c.limit.ensures at c.in-Err-check.ensures) c.report-in-Err-check.ensures.written)
 
 pub returns-then-options-clause-status : goal.returns-then-options-clause-status
 returns-then-options-clause-status g c = listed_status _ (outputs_of c.list.new.streams) c.list.ensures
@@ -56,4 +56,4 @@ returns-then-options-clause-status g c = listed_status _ (outputs_of c.list.new.
 pub returns-in-Ok-check-clause-status : goal.returns-in-Ok-check-clause-status
 returns-in-Ok-check-clause-status g c =
     held_status (beginning c.in-Ok-plan_of.plan (g.S.Starter.asked c.args.starter.now) c.args.streams.now)
-    c.in-Ok-check.status c.in-Ok-check.ensures
+    c.in-Ok-check.status (rw c.limit.ensures at c.in-Ok-check.ensures)

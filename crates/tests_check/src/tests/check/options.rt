@@ -87,11 +87,13 @@ fn a_plan_has_a_command_and_a_lesson(rt: HostRuntime) -> Result<(), Fail> {
 }
 
 /// Arguments in which one option is out of its range, or has an unknown name.
-static BEYOND: [[&str; 4]; 6] = [
+static BEYOND: [[&str; 4]; 8] = [
     ["gtp_check", "engine", "--size", "4"],
     ["gtp_check", "engine", "--size", "26"],
     ["gtp_check", "engine", "--restarts", "1001"],
     ["gtp_check", "engine", "--trials", "1001"],
+    ["gtp_check", "engine", "--timeout", "0"],
+    ["gtp_check", "engine", "--start-timeout", "86401"],
     ["gtp_check", "engine", "--only", "nothing"],
     ["gtp_check", "engine", "--suicide", "allowed"],
 ];

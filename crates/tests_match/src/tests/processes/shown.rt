@@ -17,6 +17,8 @@ fn bytes_endings_and_causes_are_shown_in_printable_bytes(rt: HostRuntime) -> Res
     push_ending(&mut line, Ending::Status(3));
     push_ending(&mut line, Ending::Signal(11));
     push_ending(&mut line, Ending::Running);
+    push_ending(&mut line, Ending::Late(1));
+    push_ending(&mut line, Ending::Late(30));
     let mut unstarted = ArrayVec::<u8, 600>::new();
     let words = ["no_such_program", "--now"];
     push_unstarted(
@@ -27,7 +29,8 @@ fn bytes_endings_and_causes_are_shown_in_printable_bytes(rt: HostRuntime) -> Res
         (shown.as_slice(), " A~\\\"\\\\\\n\\r\\t\\x00\\x1B\\x7F\\xFF"),
         (
             line.as_slice(),
-            "\"=1 ok\\n\", exit status 3, signal 11, but it ran on",
+            "\"=1 ok\\n\", exit status 3, signal 11, but it ran on, \
+                no answer in 1 second, no answer in 30 seconds",
         ),
         (
             unstarted.as_slice(),
