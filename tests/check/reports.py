@@ -7,7 +7,7 @@ from typing import NamedTuple, Optional, Tuple
 OUTPUT = re.compile(
     r"""
     check:\ (?:".*"|an\ engine\ without\ a\ name),\ version\ (?:".*"|unknown)
-    ,\ seed\ \d+,\ (?:simple|positional)\ ko\n
+    ,\ seed\ \d+,\ (?:(?:simple|positional)\ ko|ko\ unasked)\n
     (?P<blocks>(?:[\d\#].*\n|\n)*)
     (?P<notes>(?:check:\ .*\n)*)
     check:\ (?P<commands>\d+)\ commands?,\ (?P<starts>\d+)\ starts?,\ (?P<count>\d+)\ complaints?\n

@@ -14,6 +14,7 @@ from .checking import PYTHON, WRONG, Checker, notes_of, only
 FREE = PYTHON + " tests/engines/right/free {} --seed {} --ko {}"
 SCORES = ("komi", "games")
 HISTORY = ("start", "drawn", "record", "genmoves", "games")
+KOS = ("ko", "drawn", "record", "genmoves", "games")
 SUICIDES = ("suicide", "drawn", "genmoves", "games")
 PLAYS = ("ko", "captures", "suicide", "genmoves", "games")
 FREEDOMS: Dict[str, Sequence[str]] = {
@@ -32,6 +33,7 @@ FREEDOMS: Dict[str, Sequence[str]] = {
     "keeps_one_move": ("start", "drawn", "genmoves", "games"),
     "allows_suicide": SUICIDES,
     "allows_suicide_of_chains": SUICIDES,
+    "situational_ko": KOS,
     "has_all_freedoms": ("captures", "komi", *SUICIDES),
 }
 # seeds of an engine that is blamed if it says the same score three times by chance
@@ -40,9 +42,16 @@ ALLOW_SUICIDE = (
     *("allows_suicide", "allows_suicide_of_chains", "has_all_freedoms"),
     *("suicide_and_no_ko", "captures_are_suicide"),
 )
+# the engines' rules of ko, which differ: each is right by one of them
+KO_RULES = {
+    "simple": "gtp_engine --policy random --ko simple",
+    "positional": "gtp_engine --policy random --ko positional",
+    "situational": FREE.format("situational_ko", 1, "simple"),
+}
 # what may be said of these engines, by what is random
 MAY_BE_SAID = re.compile(
-    r"it first refused an undo after \d+ undos? in a row|.*\b(?:suicide|score)s?\b.*"
+    r"it first refused an undo after \d+ undos? in a row"
+    r"|\d+ moves? by genmove, not judged, as the options say|.*\bscores?\b.*"
 )
 # the lessons that notice engines that go beyond a freedom, and the command that is answered wrongly
 BEYOND: Dict[str, tuple[Sequence[str], Optional[str]]] = {
@@ -82,8 +91,9 @@ def pytest_generate_tests(metafunc: pytest.Metafunc) -> None:
 @pytest.mark.parametrize("name", FREEDOMS)
 def test_freedom_is_not_blamed(name: str, seed: int, checker: Checker) -> None:
     rule = ("simple", "positional")[(list(FREEDOMS).index(name) + seed) % 2]
+    asked_rule = "unasked" if name == "situational_ko" else rule
     lessons = only(*FREEDOMS[name]) if seed % 10 else []
-    options = ["--ko", rule, "--seed", str(seed), *suicide_options(name), *lessons]
+    options = ["--ko", asked_rule, "--seed", str(seed), *suicide_options(name), *lessons]
     check = checker.check(FREE.format(name, seed, rule), *options)
     assert (check.status, check.errors) == (0, ""), check.output
     assert check.report.total == 0
@@ -98,6 +108,26 @@ def test_only_suicide_is_blamed_where_it_is_asked(name: str, checker: Checker) -
     assert check.report.complaints
     for complaint in check.report.complaints:
         assert complaint.right.startswith("suicide: ") or complaint.right == "the move isn't legal"
+
+
+@pytest.mark.parametrize("rule", KO_RULES)
+def test_no_rule_of_ko_is_blamed_where_ko_is_not_asked(rule: str, checker: Checker) -> None:
+    check = checker.check(KO_RULES[rule], "--ko", "unasked", *only(*KOS))
+    assert (check.status, check.errors) == (0, ""), check.output
+    assert check.output.splitlines()[0].endswith(", ko unasked")
+
+
+@pytest.mark.parametrize("asked", ["simple", "positional"])
+def test_situational_ko_is_blamed_where_another_rule_is_asked(asked: str, checker: Checker) -> None:
+    options = ["--restarts", "0", "--trials", "6", *only("ko", "drawn", "record")]
+    check = checker.check(KO_RULES["situational"], "--ko", asked, *options)
+    assert (check.status, check.errors) == (1, "")
+
+
+@pytest.mark.parametrize("name", [name for name, row in BEYOND.items() if row[1] == "final_score"])
+def test_no_score_is_blamed_where_none_is_asked(name: str, checker: Checker) -> None:
+    check = checker.check(f"{WRONG}/beyond {name}", "--score", "unasked", "--only", "komi")
+    assert (check.status, check.errors, check.report.total) == (0, "", 0), check.output
 
 
 def test_engine_that_estimates_by_chance_is_seldom_blamed(checker: Checker) -> None:
@@ -133,5 +163,5 @@ def test_moves_that_are_asked_and_never_answered_earn_no_pass(checker: Checker) 
     assert notes_of(check.report) == [
         "genmoves: no play and no genmove was answered rightly on any board of it",
         f"it refuses the sizes {sizes}",
-        "1 suicide by genmove, not judged, as the options say",
+        "1 move by genmove, not judged, as the options say",
     ]

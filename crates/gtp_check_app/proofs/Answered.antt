@@ -92,7 +92,7 @@ module _ {P : Type 0} (known : Ghosts P) (laws : Laws known) (noted : MovesAreNo
         let at_next = same_noted after.state.notes next.notes lesson
         (complained_noted (moment next before.asked) complains none) among in
         let at_mid = same_noted next.notes mid.notes lesson
-        (first_noted mid (is_blamed plan.suicide fault) first) at_next in
+        (first_noted mid (is_blamed plan.unasked fault) first) at_next in
         elim (heard_noted heard.mid before.asked fault mid lesson
         (asked_sound known laws plan before.state before.asked sound heard.asks) heard.heard at_mid) [
           | inl was ↦ inl (same_noted heard.mid.notes before.state.notes lesson (asked_noted before.state heard.asks)
@@ -109,12 +109,12 @@ module _ {P : Type 0} (known : Ghosts P) (laws : Laws known) (noted : MovesAreNo
         → IsExchanged known before fault after → Holds before.notes → Holds after.notes) where
       after_heard : (before : Moment P) {mid next : State P} {fault : Option Fault} {after : Moment P}
           {line said : List (List ℕ)} → (heard : Exchanges known plan before.state fault mid)
-          → WritesFirst known plan mid (is_blamed plan.suicide fault) next line
+          → WritesFirst known plan mid (is_blamed plan.unasked fault) next line
           → Complains known plan (moment next before.asked) fault after said
           → after.state.tally.complaints ≡ 0 → Holds heard.heard.notes → Holds after.state.notes
       after_heard before {mid = mid} {next = next} {fault = fault} {after = after} heard first complains none holds =
           same next.notes after.state.notes (complained_noted (moment next before.asked) complains none)
-          (same mid.notes next.notes (first_noted mid (is_blamed plan.suicide fault) first)
+          (same mid.notes next.notes (first_noted mid (is_blamed plan.unasked fault) first)
           (same heard.heard.notes mid.notes (ap (λ (s : State P). s.notes.answered) heard.heard.leads) holds))
 
       turn_holds : (before : Moment P) {after : Moment P} {texts shows : List (List ℕ)}

@@ -113,7 +113,7 @@ module _ {P : Type 0} (known : Ghosts P) (laws : Laws known) (plan : Plan) where
     where
       heard_faults : next.tally.faults.items ≡ before.state.tally.faults.items
       heard_faults =
-          (first_tally mid (is_blamed plan.suicide fault) first).1
+          (first_tally mid (is_blamed plan.unasked fault) first).1
           ∙ ap (λ (s : State P). s.tally.faults.items) heard.heard.leads
           ∙ ap (λ (t : Tally). t.faults.items) (asked_tally known laws plan before.state heard.asks)
 
@@ -141,11 +141,11 @@ module _ {P : Type 0} (known : Ghosts P) (laws : Laws known) (plan : Plan) where
 
       heard_complaints : next.tally.complaints ≡ before.state.tally.complaints
       heard_complaints =
-          (first_tally mid (is_blamed plan.suicide fault) first).0 ∙ ap (λ (t : Tally). t.complaints) heard_tally
+          (first_tally mid (is_blamed plan.unasked fault) first).0 ∙ ap (λ (t : Tally). t.complaints) heard_tally
 
       heard_faults : next.tally.faults.items ≡ before.state.tally.faults.items
       heard_faults =
-          (first_tally mid (is_blamed plan.suicide fault) first).1
+          (first_tally mid (is_blamed plan.unasked fault) first).1
           ∙ ap (λ (t : Tally). t.faults.items) heard_tally
 
 module _ {P O E : Type 0} (known : Known P O E) (laws : Laws known.processes) (begins : Beginning P O E) where
@@ -232,7 +232,7 @@ module _ {P O E : Type 0} (known : Known P O E) (laws : Laws known.processes) (e
       quiet : {why : Over} {last : Point P O E}
           → (over : TurnsAreOver known begins.plan (first_point begins) why last)
           → last.now.state.tally.complaints ≡ 0 → (turn : HasTurn known begins (last_before over))
-          → is_blamed begins.plan.suicide (fault_in turn.is.turn) ≡ false
+          → is_blamed begins.plan.unasked (fault_in turn.is.turn) ≡ false
       quiet {why = why} {last = last} over none =
           (silent_checks known laws).no_fault begins (last_before over)
           (sym (over_tally over.before why last.now over.over) ∙ none)

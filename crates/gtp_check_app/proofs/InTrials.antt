@@ -7,7 +7,7 @@ use Rattle.gtp_process.specs.Starts.{Attempts, program_line}
 use Rattle.gtp_check_judge.specs.declared.asking.CheckCommand.{CheckCommand}
 use Rattle.gtp_check_judge.specs.Check.{started}
 use Rattle.gtp_check_judge.specs.Exam.{begun}
-use Rattle.gtp_check_course.specs.declared.suicides.Suicide.{Suicide}
+use Rattle.gtp_check_course.specs.declared.unasked.Unasked.{Unasked}
 use Rattle.gtp_check_shortening.specs.declared.flat.Shortening.{Shortening}
 use Rattle.gtp_check_shortening.specs.Reduction.{Reduction}
 use Rattle.gtp_check_talk.specs.declared.fault.Fault.{Fault}
@@ -126,19 +126,19 @@ module _ {P : Type 0} (known : Ghosts P) (laws : Laws known) where
   -- ---- one trial
 
   -- a conversation in which nothing was left out is one
-  converses_so : (suicide : Suicide) (start : Dialogue P) {end : Dialogue P}
-      → Spares known suicide start end → Converses known start end
-  converses_so suicide start Spares.begins_so = Converses.begins
-  converses_so suicide start (Spares.asks_so purpose command more wanted asked) =
-      Converses.asks purpose command (converses_so suicide start more) asked
-  converses_so suicide start (Spares.exchanges_so more exchanged) =
-      Converses.exchanges (converses_so suicide start more) exchanged
+  converses_so : (unasked : Unasked) (start : Dialogue P) {end : Dialogue P}
+      → Spares known unasked start end → Converses known start end
+  converses_so unasked start Spares.begins_so = Converses.begins
+  converses_so unasked start (Spares.asks_so purpose command more wanted asked) =
+      Converses.asks purpose command (converses_so unasked start more) asked
+  converses_so unasked start (Spares.exchanges_so more exchanged) =
+      Converses.exchanges (converses_so unasked start more) exchanged
 
-  ends_so : (suicide : Suicide) (start : Dialogue P) (fault : Fault) (end : Dialogue P)
-      → SparesToEnd known suicide start fault end → EndsWrong known start fault end
-  ends_so suicide start fault end so = record {
+  ends_so : (unasked : Unasked) (start : Dialogue P) (fault : Fault) (end : Dialogue P)
+      → SparesToEnd known unasked start fault end → EndsWrong known start fault end
+  ends_so unasked start fault end so = record {
     before = so.before;
-    converses = converses_so suicide start so.spares;
+    converses = converses_so unasked start so.spares;
     exchanged = so.exchanged;
   }
 
@@ -148,11 +148,11 @@ module _ {P : Type 0} (known : Ghosts P) (laws : Laws known) where
   trial_rule tries before
       (IsTrial.right {engine = engine} process ending started_so spares asks left) =
       laws.stays (begun_with (started before.check).exam process before.notes) engine None
-      (converses_so tries.suicide (begun_with (started before.check).exam process before.notes) spares)
+      (converses_so tries.unasked (begun_with (started before.check).exam process before.notes) spares)
   trial_rule tries before
       (IsTrial.wrong {engine = engine} process ending fault started_so ends asks left) =
       laws.stays (begun_with (started before.check).exam process before.notes) engine (Some fault)
-      (ends_so tries.suicide (begun_with (started before.check).exam process before.notes) fault engine ends)
+      (ends_so tries.unasked (begun_with (started before.check).exam process before.notes) fault engine ends)
 
   trial_grounded : (rule : KoRule) (tries : Trial) (before : Standing P) {result : Option Wrong} {after : Standing P}
       → before.check.exam.game.rule ≡ rule → IsTrial known tries before result after
@@ -170,7 +170,7 @@ module _ {P : Type 0} (known : Ghosts P) (laws : Laws known) where
       (subst (λ (r : KoRule). IsGrounded known r starts (wrong_with fault engine ending)) same
       (grounded_by before.check.exam.game.rule starts process before.notes fault engine ending
       (just_started tries.line before.asked has process started_so)
-      (ends_so tries.suicide (begun_with (started before.check).exam process before.notes) fault engine ends) left))
+      (ends_so tries.unasked (begun_with (started before.check).exam process before.notes) fault engine ends) left))
 
   module _ (plan : Plan) (found : Wrong) (rule : KoRule) where
     tried_stays : (commands : List CheckCommand) (before : Moment P) {result : Option Wrong} {after : Moment P}

@@ -266,10 +266,10 @@ module _ {P : Type 0} {since : Attempts P} (known : Ghosts P) (laws : Laws known
   -- the state in which the first line was written, and what was wrong
   written_sound : (before : Moment P) (mid next : State P) (fault : Option Fault) (line : List (List ℕ))
       → IsSound known laws plan since None before → (heard : Exchanges known plan before.state fault mid)
-      → WritesFirst known plan mid (is_blamed plan.suicide fault) next line
+      → WritesFirst known plan mid (is_blamed plan.unasked fault) next line
       → IsSound known laws plan since fault (moment next before.asked)
   written_sound before mid next fault line sound heard first =
-      first_sound mid before.asked fault (is_blamed plan.suicide fault)
+      first_sound mid before.asked fault (is_blamed plan.unasked fault)
       (heard_sound heard.mid before.asked fault mid (asked_sound before.state before.asked sound heard.asks)
       heard.heard)
       first
@@ -360,7 +360,7 @@ module _ {P : Type 0} (known : Ghosts P) (laws : Laws known) (plan : Plan) where
 
   complained_none : (before : Moment P) {fault : Option Fault} {after : Moment P} {said : List (List ℕ)}
       → Complains known plan before fault after said → after.state.tally.complaints ≡ 0
-      → (before.state.tally.complaints ≡ 0) × (is_blamed plan.suicide fault ≡ false)
+      → (before.state.tally.complaints ≡ 0) × (is_blamed plan.unasked fault ≡ false)
   complained_none before Complains.nothing is = (is, refl)
   complained_none before (Complains.passed_over unjudged passes) is =
       (sym (ap (λ (s : State P). s.tally.complaints) passes.leads) ∙ is, ap not unjudged)
@@ -376,7 +376,7 @@ module _ {P : Type 0} (known : Ghosts P) (laws : Laws known) (plan : Plan) where
 
   pub turn_none : (before : Moment P) {after : Moment P} {texts shows : List (List ℕ)}
       → (turn : Turn known plan before after texts shows) → after.state.tally.complaints ≡ 0
-      → (before.state.tally.complaints ≡ 0) × (is_blamed plan.suicide (fault_in turn) ≡ false)
+      → (before.state.tally.complaints ≡ 0) × (is_blamed plan.unasked (fault_in turn) ≡ false)
   turn_none before (Turn.starts {mid = mid} process steps next fruitful may tries quits fresh) is =
       (sym (ap (λ (t : Tally). t.complaints) (asked_tally before.state steps)) ∙ started_none mid.tally is, refl)
   turn_none before (Turn.restarts steps next quits) is =
@@ -387,7 +387,7 @@ module _ {P : Type 0} (known : Ghosts P) (laws : Laws known) (plan : Plan) where
       let none = complained_none (moment next before.asked) complains is in (
         sym (ap (λ (t : Tally). t.complaints) (asked_tally before.state heard.asks))
             ∙ sym (ap (λ (s : State P). s.tally.complaints) heard.heard.leads)
-            ∙ sym (first_none mid (is_blamed plan.suicide fault) first) ∙ none.0,
+            ∙ sym (first_none mid (is_blamed plan.unasked fault) first) ∙ none.0,
         none.1,
       )
 

@@ -54,7 +54,7 @@ both_out known one other before between after (line_flushed {lines = lines} {mid
 
 module _ {P O E : Type 0} (known : Known P O E) (plan : Plan) (before : Moment P) (mid : State P) (fault : Fault)
     (wrong : Wrong) (purpose : Purpose) (tally : Tally) (closes : Closes known.processes fault before.state wrong mid)
-    (judged : is_blamed plan.suicide (Some fault) ≡ true) (same : purpose ≡ wrong_purpose wrong)
+    (judged : is_blamed plan.unasked (Some fault) ≡ true) (same : purpose ≡ wrong_purpose wrong)
     (now : tally ≡ found mid.tally purpose.lesson fault) where
   found_now : record mid { tally = tally } ≡ found_in mid wrong fault
   found_now =
@@ -110,7 +110,7 @@ module _ {P O E : Type 0} (known : Known P O E) (plan : Plan) where
 
   -- the first line wasn't written, and so the turn stopped
   pub first_stops : (mid : Point P O E) (fault : Option Fault) (after : State P) (new : Streams O E) (why : Failure)
-      → FirstStops known plan mid.now.state (is_blamed plan.suicide fault) mid.streams after new why
+      → FirstStops known plan mid.now.state (is_blamed plan.unasked fault) mid.streams after new why
       → StopsAfter known plan mid fault (process_of after.engine) mid.now.asked new why
   first_stops mid fault after new why (first_broke first breaks wrote same) =
       stops_after (λ before errors heard waited.
@@ -123,8 +123,8 @@ module _ {P O E : Type 0} (known : Known P O E) (plan : Plan) where
 
   -- the complaint wasn't written, and so the turn stopped
   pub complaint_stops : (mid : Point P O E) (fault : Fault) (next : State P) (between : Streams O E)
-      (after : Point P O E) (why : Failure) → is_blamed plan.suicide (Some fault) ≡ true
-      → FirstIsFlushed known plan mid.now.state (is_blamed plan.suicide (Some fault)) mid.streams next between
+      (after : Point P O E) (why : Failure) → is_blamed plan.unasked (Some fault) ≡ true
+      → FirstIsFlushed known plan mid.now.state (is_blamed plan.unasked (Some fault)) mid.streams next between
       → ComplaintStops known plan (point next mid.now.asked between) fault after why
       → StopsAfter known plan mid (Some fault) (process_of after.now.state.engine) after.now.asked after.streams why
   complaint_stops mid fault next between after why judged (first_flushed line first flushed cleared_so)
@@ -154,7 +154,7 @@ module _ {P O E : Type 0} (known : Known P O E) (plan : Plan) where
   -- the first line was written where it is due, and nothing is complained of
   pub settles_quietly : (mid : Point P O E) (fault : Option Fault) (next : State P) (between : Streams O E)
       (after : State P)
-      → FirstIsFlushed known plan mid.now.state (is_blamed plan.suicide fault) mid.streams next between
+      → FirstIsFlushed known plan mid.now.state (is_blamed plan.unasked fault) mid.streams next between
       → Complains known.processes plan (moment next mid.now.asked) fault (moment after mid.now.asked) []
       → Settles known plan mid fault (point after mid.now.asked between)
   settles_quietly mid fault next between after (first_flushed line first flushed cleared_so) complains = record {
@@ -170,7 +170,7 @@ module _ {P O E : Type 0} (known : Known P O E) (plan : Plan) where
 
   -- the first line was written where it is due, and then what is due of a complaint
   pub settles_so : (mid : Point P O E) (fault : Fault) (next : State P) (between : Streams O E) (after : Point P O E)
-      → FirstIsFlushed known plan mid.now.state (is_blamed plan.suicide (Some fault)) mid.streams next between
+      → FirstIsFlushed known plan mid.now.state (is_blamed plan.unasked (Some fault)) mid.streams next between
       → ComplaintIsFlushed known plan (point next mid.now.asked between) fault after
       → Settles known plan mid (Some fault) after
   settles_so mid fault next between after (first_flushed line first flushed cleared_so) out = record {

@@ -57,14 +57,14 @@ status_in plan last = status_of last.tally.complaints
     (is_earned plan.lessons.items (missed_from plan last.course.place.lesson) last.notes.answered.items)
 
 -- What the last lines say of a check that is over for this reason: the lessons from the one on in which the course is,
--- what isn't shown, the starts, the complaints, and the suicides that weren't judged.
+-- what isn't shown, the starts, the complaints, and the moves that weren't judged.
 pub record IsEnding {P : Type 0} (plan : Plan) (last : State P) (why : Over) (ending : Ending) : Type 0 where
   pub over : ending.over.now ≡ why
   pub missed : ending.missed.now ≡ missed_from plan last.course.place.lesson
   pub hidden : ending.hidden.now ≡ last.tally.hidden
   pub starts : ending.starts ≡ last.check.starts
   pub complaints : ending.complaints ≡ last.tally.complaints
-  pub suicides : ending.suicides ≡ last.tally.suicides
+  pub unjudged : ending.unjudged ≡ last.tally.unjudged
 
 -- the last lines of a check
 pub record AreLastLines {P : Type 0} (plan : Plan) (last : State P) (why : Over) (text : List ℕ) : Type 0 where

@@ -13,22 +13,24 @@ use Rattle.go_board.specs.declared.rules.KoRule.{KoRule}
 use Rattle.go_board.specs.declared.rules.KoRule.TheVariants.{Simple, Positional}
 use Rattle.gtp_check_course.specs.Lessons.{all_lessons, name_of}
 use Rattle.gtp_check_course.specs.declared.lessons.Lesson.{Lesson}
-use Rattle.gtp_check_course.specs.declared.suicides.Suicide.{Suicide}
-use Rattle.gtp_check_course.specs.declared.suicides.Suicide.TheVariants.{Forbidden, Unasked}
+use Rattle.gtp_check_course.specs.declared.unasked.Unasked.{Unasked}
 use Rattle.gtp_check_app.specs.declared.options.Options.{Options}
 
 -- ---- the options that there are
 
--- the program keeps these lists of names: the ko rules, the rules of suicide, and the lessons of `--only` and of `--skip`
+-- the program keeps these lists of names: those of `--ko`, `--suicide` and `--score`, and the lessons of `--only` and of
+-- `--skip`
 pub record KeptNames : Type 0 where
   pub rules : Bor (List (Bor Text))
   pub suicides : Bor (List (Bor Text))
+  pub scores : Bor (List (Bor Text))
   pub only : Bor (List (Bor Text))
   pub skip : Bor (List (Bor Text))
 
 pub record AreKept (names : KeptNames) : Type 0 where
-  pub rules : AreNames (codes "simple" ∷ codes "positional" ∷ []) names.rules
+  pub rules : AreNames (codes "simple" ∷ codes "positional" ∷ codes "unasked" ∷ []) names.rules
   pub suicides : AreNames (codes "forbidden" ∷ codes "unasked" ∷ []) names.suicides
+  pub scores : AreNames (codes "asked" ∷ codes "unasked" ∷ []) names.scores
   pub only : AreNames (map name_of all_lessons) names.only
   pub skip : AreNames (map name_of all_lessons) names.skip
 
@@ -40,13 +42,15 @@ word_rule name = record (new_rule name) { value_names = 1 }
 abbrev pub program : App
 program = with_rule (program_named (codes "gtp_check")) (word_rule (codes "CMD"))
 
--- `[--size N] [--ko simple|positional] [--suicide forbidden|unasked] [--seed N] [--quick] [--only LESSON]..`, and
--- `[--skip LESSON].. [--list] [--singly] [--restarts N] [--trials N] [--timeout SECONDS] [--start-timeout SECONDS]`
+-- `[--size N] [--ko simple|positional|unasked] [--suicide forbidden|unasked] [--score asked|unasked] [--seed N]`, and
+-- `[--quick] [--only LESSON].. [--skip LESSON].. [--list] [--singly] [--restarts N] [--trials N] [--timeout SECONDS]`,
+-- and `[--start-timeout SECONDS]`
 abbrev pub options : KeptNames → List Rule
 options names =
     maybe_number_rule (codes "size") (pos 5) (pos 25)
     ∷ name_rule (codes "ko") names.rules (codes "simple")
     ∷ name_rule (codes "suicide") names.suicides (codes "forbidden")
+    ∷ name_rule (codes "score") names.scores (codes "asked")
     ∷ number_rule (codes "seed") (pos 0) (pos 4294967295) (codes "1")
     ∷ flag_rule (codes "quick")
     ∷ names_rule (codes "only") names.only
@@ -65,13 +69,21 @@ command_line names = with_rules program (options names)
 
 -- ---- what the words ask for
 
--- the ko rule of this name
+-- The ko rule of the game, by this name: where ko isn't asked it is the strictest one.
 abbrev pub ko_rule_named : Text → KoRule
-ko_rule_named name = if bytes_eq name (codes "positional") then Positional else Simple
+ko_rule_named name = if bytes_eq name (codes "simple") then Simple else Positional
 
--- what this name says of suicide
-abbrev pub suicide_named : Text → Suicide
-suicide_named name = if bytes_eq name (codes "unasked") then Unasked else Forbidden
+-- the name of a rule says that this isn't asked
+abbrev pub is_unasked : Text → Bool
+is_unasked name = bytes_eq name (codes "unasked")
+
+-- what isn't asked, as the options say
+abbrev pub unasked_in : List Row → Unasked
+unasked_in rows = record {
+  suicide = is_unasked (option_text (codes "suicide") rows);
+  ko = is_unasked (option_text (codes "ko") rows);
+  score = is_unasked (option_text (codes "score") rows);
+}
 
 -- the lesson's name is among these
 abbrev pub is_named : List Text → Lesson → Bool
@@ -86,7 +98,7 @@ pub record Ask (rows : List Row) (options : Options) : Type 0 where
   pub command : options.command.now ≡ option_text (codes "CMD") rows
   pub size : HasNumber (codes "size") rows options.size
   pub rule : options.rule ≡ ko_rule_named (option_text (codes "ko") rows)
-  pub suicide : options.suicide ≡ suicide_named (option_text (codes "suicide") rows)
+  pub unasked : options.unasked ≡ unasked_in rows
   pub seed : HasNumber (codes "seed") rows options.seed
   pub quick : HasFlag (codes "quick") rows options.quick
   pub only : options.only.items ≡ lessons_named (option_texts (codes "only") rows)

@@ -65,7 +65,7 @@ pub record IsPlanOf (options : Options) (shows_progress : Bool) (plan : Plan) : 
   pub has_words : words options.command.now ≢ []
   pub scene_size : IsSceneSize options.size plan.scene_size
   pub rule : plan.rule ≡ options.rule
-  pub suicide : plan.suicide ≡ options.suicide
+  pub unasked : plan.unasked ≡ options.unasked
   pub seed : plan.seed ≡ options.seed
   pub lessons : plan.lessons.items ≡ filter (is_chosen options) all_lessons
   pub has_lessons : plan.lessons.items ≢ []

@@ -128,7 +128,7 @@ pub record AnswersRightly {P : Type 0} (known : Ghosts P) (rule : KoRule) (start
 -- was heard of its engine, since that was started, is a right one.
 pub record SilentChecksAreRight {P O E : Type 0} (known : Known P O E) : Type 0 where
   pub no_fault : (begins : Beginning P O E) (last : Point P O E) → last.now.state.tally.complaints ≡ 0
-      → (has : HasTurn known begins last) → is_blamed begins.plan.suicide (fault_in has.is.turn) ≡ false
+      → (has : HasTurn known begins last) → is_blamed begins.plan.unasked (fault_in has.is.turn) ≡ false
   pub right : (begins : Beginning P O E) (now : Point P O E) (engine : Engine P) → ComesTo known begins now
       → now.now.state.engine ≡ Some engine
       → AnswersRightly known.processes begins.plan.rule (starts_of begins.plan begins.asked now.now.asked)
@@ -263,7 +263,7 @@ pub record HasPassed {P O E : Type 0} (known : Known P O E) (begins : Beginning 
   pub over : IsOverAt known begins last
   pub pass : IsPass begins.plan last
   pub earned : HasEarned known begins over.now last
-  pub no_fault : (turn : HasTurn known begins over.now) → is_blamed begins.plan.suicide (fault_in turn.is.turn) ≡ false
+  pub no_fault : (turn : HasTurn known begins over.now) → is_blamed begins.plan.unasked (fault_in turn.is.turn) ≡ false
 
 -- A check is over, nothing that is judged was wrong in any turn, and a pass isn't earned: a lesson wasn't asked to its
 -- end, or in one no `play` and no `genmove` was answered rightly in any turn.
@@ -272,7 +272,7 @@ pub record HasNotPassed {P O E : Type 0} (known : Known P O E) (begins : Beginni
   pub over : IsOverAt known begins last
   pub no_pass : ¬ IsPass begins.plan last
   pub not_earned : ¬ HasEarned known begins over.now last
-  pub no_fault : (turn : HasTurn known begins over.now) → is_blamed begins.plan.suicide (fault_in turn.is.turn) ≡ false
+  pub no_fault : (turn : HasTurn known begins over.now) → is_blamed begins.plan.unasked (fault_in turn.is.turn) ≡ false
 
 -- the words ask for a check, of which this holds
 pub record AsksForCheck {P O E : Type 0} (words : List Text) (shows_progress : Bool) (asked : Attempts P)

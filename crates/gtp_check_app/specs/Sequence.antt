@@ -73,7 +73,7 @@ module _ {P O E : Type 0} (known : Known P O E) (plan : Plan) where
   pub data StopsIn (before : Point P O E) : Option P → Attempts P → Streams O E → Failure → Type 0 where
     first_line_broke : {mid next : State P} {after : Streams O E} {fault : Option Fault} {line : List ℕ}
         → (heard : Exchanges known.processes plan before.now.state fault mid)
-        → WritesFirst known.processes plan mid (is_blamed plan.suicide fault) next (line ∷ [])
+        → WritesFirst known.processes plan mid (is_blamed plan.unasked fault) next (line ∷ [])
         → BreaksAt known.outs line before.streams.output after.output
         → IsShown known.errs plan.shows_progress (waiting plan heard.mid ++ cleared ∷ [])
         before.streams.errors after.errors
@@ -81,7 +81,7 @@ module _ {P O E : Type 0} (known : Known P O E) (plan : Plan) where
     complaint_broke : {mid next : State P} {closed : Moment P} {line_flushed : O} {after : Streams O E}
         {fault : Option Fault} {line : List (List ℕ)} {text : List ℕ}
         → (heard : Exchanges known.processes plan before.now.state fault mid)
-        → WritesFirst known.processes plan mid (is_blamed plan.suicide fault) next line
+        → WritesFirst known.processes plan mid (is_blamed plan.unasked fault) next line
         → AreFlushed known.outs line before.streams.output line_flushed
         → Complains known.processes plan (moment next before.now.asked) fault closed (text ∷ [])
         → BreaksAt known.outs text line_flushed after.output

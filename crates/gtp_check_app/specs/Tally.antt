@@ -48,7 +48,7 @@ nothing_found starts_left = record {
   starts_left = starts_left;
   is_after_fault = false;
   has_first_line = false;
-  suicides = 0;
+  unjudged = 0;
 }
 
 -- what was wrong in another lesson is forgotten
@@ -76,10 +76,10 @@ found tally lesson fault =
     if is_shown tally lesson fault then with_known (in_lesson tally lesson) fault
     else with_hidden (with_known (in_lesson tally lesson) fault) lesson
 
--- A `genmove` was answered with a suicide, which isn't judged. It is counted, and the next start takes none of those that
--- are left.
-abbrev pub with_suicide : Tally → Tally
-with_suicide tally = record tally { suicides = one_more tally.suicides }
+-- A `genmove` was answered with a move that isn't judged. It is counted, and the next start takes none of those that are
+-- left.
+abbrev pub with_unjudged : Tally → Tally
+with_unjudged tally = record tally { unjudged = one_more tally.unjudged }
 
 -- one of the starts that are left is taken
 abbrev pub without_start : Tally → Tally

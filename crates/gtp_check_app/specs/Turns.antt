@@ -57,7 +57,7 @@ use Rattle.gtp_check_shortening.specs.Played.{played}
 use Rattle.gtp_check_shortening.specs.Superko.{IsPositional, game_before}
 use Rattle.gtp_check_app.specs.Unjudged.{HasPassedOver, is_blamed, is_unjudged}
 use Rattle.gtp_check_app.specs.Trials.{LastGames, asked_for, left_by, limits_of, or_else, own_of, shortenings_of}
-use Rattle.gtp_check_app.specs.Tally.{found, is_shown, nothing_found, started_again, with_suicide}
+use Rattle.gtp_check_app.specs.Tally.{found, is_shown, nothing_found, started_again, with_unjudged}
 
 -- how many turns a check has at most; no check within the limits has this number
 abbrev pub most_turns : ℕ
@@ -103,7 +103,7 @@ without_engine before = record before { check = after_loss before.check; engine 
 abbrev pub before_all : {P : Type 0} → Plan → State P
 before_all plan = record {
   check = opening plan.rule most_starts;
-  course = begun plan.lessons.items plan.scene_size plan.seed plan.suicide;
+  course = begun plan.lessons.items plan.scene_size plan.seed plan.unasked;
   engine = None;
   tally = nothing_found plan.restarts;
   notes = nothing_noted;
@@ -269,7 +269,7 @@ module _ {P : Type 0} (known : Ghosts P) where
     pub notes : HasNoted (wrong_purpose wrong) (is_loss fault) before.course course
     pub leads : after ≡ record before { check = after_loss before.check; course = course; engine = None }
 
-  -- The engine chose a suicide that isn't judged. It was ended, and that is counted. The part is left in which it was
+  -- The engine chose a move that isn't judged. It was ended, and that is counted. The part is left in which it was
   -- asked for the move, if the course is in it still.
   pub record PassesOver (before after : State P) : Type 0 where
     pub engine : Engine P
@@ -284,7 +284,7 @@ module _ {P : Type 0} (known : Ghosts P) where
       check = after_loss before.check;
       course = course;
       engine = None;
-      tally = with_suicide before.tally;
+      tally = with_unjudged before.tally;
     }
 
 module _ {P : Type 0} (known : Ghosts P) (plan : Plan) where
@@ -296,7 +296,7 @@ module _ {P : Type 0} (known : Ghosts P) (plan : Plan) where
       : Option Wrong → Moment P → Type 0 where
     by_trial : {result : Option Wrong} {after : Standing P}
         → IsTrial known
-        (trial (program_line plan.words.items) (wrong_purpose found) (asked_for found commands) plan.suicide)
+        (trial (program_line plan.words.items) (wrong_purpose found) (asked_for found commands) plan.unasked)
         (standing_in before)
         result after
         → IsTried found commands before result
@@ -363,16 +363,16 @@ module _ {P : Type 0} (known : Ghosts P) (plan : Plan) where
   -- ---- a complaint
 
   -- What is wrong with the engine, if anything, is complained of: with its own conversation, or with a shorter one that
-  -- ended with the same; or not, where its like was shown often enough. A suicide that isn't judged is passed over.
+  -- ended with the same; or not, where its like was shown often enough. A move that isn't judged is passed over.
   pub data Complains (before : Moment P) : Option Fault → Moment P → List (List ℕ) → Type 0 where
     nothing : Complains before None before []
-    passed_over : {fault : Fault} {after : State P} → is_unjudged plan.suicide fault ≡ true
+    passed_over : {fault : Fault} {after : State P} → is_unjudged plan.unasked fault ≡ true
         → PassesOver known before.state after → Complains before (Some fault) (moment after before.asked) []
-    hidden : {fault : Fault} {mid : State P} (wrong : Wrong) → is_unjudged plan.suicide fault ≡ false
+    hidden : {fault : Fault} {mid : State P} (wrong : Wrong) → is_unjudged plan.unasked fault ≡ false
         → Closes known fault before.state wrong mid → is_shown mid.tally (wrong_purpose wrong).lesson fault ≡ false
         → Complains before (Some fault) (moment (found_in mid wrong fault) before.asked) []
     shown : {fault : Fault} {mid : State P} {after : Moment P} {shorter : Option Wrong} (wrong : Wrong)
-        (complaint : Complaint) → is_unjudged plan.suicide fault ≡ false
+        (complaint : Complaint) → is_unjudged plan.unasked fault ≡ false
         → Closes known fault before.state wrong mid → is_shown mid.tally (wrong_purpose wrong).lesson fault ≡ true
         → IsShortened wrong (moment (found_in mid wrong fault) before.asked) shorter after
         → IsComplaint plan.rule
@@ -418,7 +418,7 @@ module _ {P : Type 0} (known : Ghosts P) (plan : Plan) where
         → Turn before (moment (record mid { check = after_loss mid.check; course = course; engine = None })
         before.asked) [] []
     exchanges : {mid next : State P} {after : Moment P} {fault : Option Fault} {line said : List (List ℕ)}
-        → (heard : Exchanges before.state fault mid) → WritesFirst mid (is_blamed plan.suicide fault) next line
+        → (heard : Exchanges before.state fault mid) → WritesFirst mid (is_blamed plan.unasked fault) next line
         → Complains (moment next before.asked) fault after said
         → Turn before after (line ++ said) (waiting plan heard.mid ++ (clearing line ++ looking said))
 

@@ -91,7 +91,7 @@ impl<S: Starter> Check<S> {
                 copied(&plan.lessons),
                 plan.scene_size,
                 plan.seed,
-                plan.suicide,
+                plan.unasked,
             ),
             engine: None,
             notes: Notes::new(),
@@ -275,7 +275,7 @@ impl<S: Starter> Check<S> {
         self.examiner.may_start() && self.tally.may_start()
     }
 
-    /// Writes what an exchange gave: the first line, if it is due, and what is wrong. A suicide that isn't judged is
+    /// Writes what an exchange gave: the first line, if it is due, and what is wrong. A move that isn't judged is
     /// only counted.
     fn settle<O: WriteOnce, E: WriteOnce>(
         &mut self,
@@ -295,7 +295,7 @@ impl<S: Starter> Check<S> {
             (process_of self.new.engine) (S.asked starter.new) streams.new why) }
         ensures paired { OnOk result (IsPaired (state_of self.new)) }
     {
-        let is_wrong = is_blamed(plan.suicide, fault);
+        let is_wrong = is_blamed(plan.unasked, fault);
         self.write_first(is_wrong, plan, streams)?;
         let Some(fault) = fault else {
             return Ok(());
@@ -456,7 +456,7 @@ impl<S: Starter> Check<S> {
             hidden: self.tally.hidden.as_slice(),
             starts: self.examiner.starts(),
             complaints: self.tally.complaints,
-            suicides: self.tally.suicides,
+            unjudged: self.tally.unjudged,
         }
     }
 }

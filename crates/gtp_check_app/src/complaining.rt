@@ -74,7 +74,7 @@ impl<S: Starter> Check<S> {
         starter: &mut S,
     ) -> Result<(), Failure>
         requires there { IsSome self.old.engine }
-        requires judged { is_blamed plan.now.suicide (Some fault) ≡ true }
+        requires judged { is_blamed plan.now.unasked (Some fault) ≡ true }
         ensures flushed { OnOk result
             (ComplaintIsFlushed (known_of S.Process.Process O.WriteOnce E.WriteOnce) plan.now
             (point (state_of self.old) (S.asked starter.old) streams.old) fault
@@ -293,7 +293,7 @@ impl<S: Starter> Check<S> {
             words: plan.words.as_slice(),
             commands,
             purpose: found.purpose(),
-            suicide: plan.suicide,
+            unasked: plan.unasked,
         };
         let tried = try_commands(
             &trial,

@@ -8,14 +8,14 @@ ghost use Rattle.clap.specs.Words.{app_of, found_of, kind_of, rows_of, rule_of};
 ghost use Rattle.clap.specs.declared.error.kind.ErrorKind.TheVariants.{OutOfMemory};
 ghost use Rattle.cli.specs.Options.{option_texts};
 ghost use Rattle.gtp_check_app.specs.Options.{Ask, AsksFor, HasFault, is_named, ko_rule_named, lessons_named};
-ghost use Rattle.gtp_check_app.specs.Options.{program, suicide_named, word_rule};
+ghost use Rattle.gtp_check_app.specs.Options.{is_unasked, program, unasked_in, word_rule};
 ghost use Rattle.gtp_check_app.specs.private.CommandLine.{IsCommandLine};
 
 use clap::{Arg, ArgMatches, Command, Error};
 use cli::VERSION;
 use cli::options::{OptionRow, Takes, flag_at, number_at, text_at, texts_at, with_options};
 use go_board::KoRule;
-use gtp_check_course::{LESSON_NAMES, LESSONS, Lesson, Lessons, Suicide};
+use gtp_check_course::{LESSON_NAMES, LESSONS, Lesson, Lessons, Unasked};
 use std::alloc::{AllocError, Global};
 use std::convert::AsStr;
 
@@ -48,8 +48,8 @@ pub struct Options<'a> {
     pub size: u32,
     /// The ko rule; simple by default.
     pub rule: KoRule,
-    /// The suicide rule; forbidden by default.
-    pub suicide: Suicide,
+    /// What isn't asked; all is by default.
+    pub unasked: Unasked,
     /// The random seed; 1 by default.
     pub seed: u32,
     /// Whether only the first eight lessons are run.
@@ -73,7 +73,7 @@ pub struct Options<'a> {
 }
 
 /// The options, in the order of the help.
-static OPTIONS: [OptionRow<'static>; 13] = [
+static OPTIONS: [OptionRow<'static>; 14] = [
     OptionRow {
         name: "size",
         takes: Takes::MaybeNumber("N", 5, 25),
@@ -82,14 +82,22 @@ static OPTIONS: [OptionRow<'static>; 13] = [
     },
     OptionRow {
         name: "ko",
-        takes: Takes::Name("RULE", &["simple", "positional"], "simple"),
-        help: "Ko rule: simple or positional",
+        takes: Takes::Name("RULE", &["simple", "positional", "unasked"], "simple"),
+        help: "Ko rule: simple, positional, or unasked (for any rule: a\n\
+            play that a ko may forbid is never sent, and not judged\n\
+            if genmove plays it)",
     },
     OptionRow {
         name: "suicide",
         takes: Takes::Name("RULE", &["forbidden", "unasked"], "forbidden"),
         help: "Suicide rule: forbidden, or unasked (never sent, and\n\
             not judged in a genmove)",
+    },
+    OptionRow {
+        name: "score",
+        takes: Takes::Name("RULE", &["asked", "unasked"], "asked"),
+        help: "Scores of empty boards: asked, or unasked (final_score\n\
+            is never sent)",
     },
     OptionRow {
         name: "seed",
@@ -168,7 +176,7 @@ fn options_of<'a>(matches: &ArgMatches<'a>) -> Options<'a>
         command: text_at(matches, "CMD"),
         size: number_at(matches, "size"),
         rule: ko_rule_named(text_at(matches, "ko")),
-        suicide: suicide_named(text_at(matches, "suicide")),
+        unasked: unasked_at(matches),
         seed: number_at(matches, "seed"),
         quick: flag_at(matches, "quick"),
         only: lessons_at(matches, "only"),
@@ -182,24 +190,32 @@ fn options_of<'a>(matches: &ArgMatches<'a>) -> Options<'a>
     }
 }
 
-/// Returns the ko rule of this name.
+/// Returns the ko rule of the game, by this name: the strictest one if ko isn't asked.
 fn ko_rule_named(name: &str) -> KoRule
     ensures { result ≡ ko_rule_named name.now }
 {
     match name {
-        "positional" => KoRule::Positional,
-        _ => KoRule::Simple,
+        "simple" => KoRule::Simple,
+        _ => KoRule::Positional,
     }
 }
 
-/// Returns the suicide rule of this name.
-fn suicide_named(name: &str) -> Suicide
-    ensures { result ≡ suicide_named name.now }
+/// Returns what isn't asked, as the options say.
+fn unasked_at(matches: &ArgMatches<'_>) -> Unasked
+    ensures { result ≡ unasked_in (rows_of (found_of matches.now)) }
 {
-    match name {
-        "unasked" => Suicide::Unasked,
-        _ => Suicide::Forbidden,
+    Unasked {
+        suicide: is_unasked(text_at(matches, "suicide")),
+        ko: is_unasked(text_at(matches, "ko")),
+        score: is_unasked(text_at(matches, "score")),
     }
+}
+
+/// Returns whether the name of a rule says that this isn't asked.
+fn is_unasked(name: &str) -> bool
+    ensures { result ≡ is_unasked name.now }
+{
+    name == "unasked"
 }
 
 /// Returns the lessons that an option names, in the order of a course.

@@ -37,7 +37,7 @@ pub fn plan_of<'a>(
         words,
         scene_size: scene_size_of(options.size),
         rule: options.rule,
-        suicide: options.suicide,
+        unasked: options.unasked,
         seed: options.seed,
         lessons,
         left_out: left_out(options),

@@ -1,7 +1,7 @@
 //! What was found so far.
 ghost use Rattle.std.specs.Prelude.{◌≡◌, ◌-◌, ◌<◌, ◌||◌, nat_lt, not};
 ghost use Rattle.gtp_check_app.specs.Tally.{alike, found, started_again, in_lesson, is_shown, nothing_found};
-ghost use Rattle.gtp_check_app.specs.Tally.{with_hidden, with_suicide};
+ghost use Rattle.gtp_check_app.specs.Tally.{with_hidden, with_unjudged};
 
 use arrayvec::ArrayVec;
 use gtp_check_course::Lesson;
@@ -33,8 +33,8 @@ pub struct Tally {
     pub is_after_fault: bool,
     /// Whether the first line has been written.
     pub has_first_line: bool,
-    /// How many suicides by `genmove` weren't judged.
-    pub suicides: u32,
+    /// How many moves by `genmove` weren't judged.
+    pub unjudged: u32,
 }
 
 impl Tally {
@@ -50,7 +50,7 @@ impl Tally {
             starts_left,
             is_after_fault: false,
             has_first_line: false,
-            suicides: 0,
+            unjudged: 0,
         }
     }
 
@@ -96,11 +96,11 @@ impl Tally {
         self.hidden[index] = self.hidden[index].saturating_add(1);
     }
 
-    /// Counts a suicide that a `genmove` chose, which isn't judged.
-    pub fn count_suicide(&mut self)
-        ensures { self.new ≡ with_suicide self.old }
+    /// Counts a move that a `genmove` chose, which isn't judged.
+    pub fn count_unjudged(&mut self)
+        ensures { self.new ≡ with_unjudged self.old }
     {
-        self.suicides = self.suicides.saturating_add(1);
+        self.unjudged = self.unjudged.saturating_add(1);
     }
 
     /// Returns whether the engine may be started: after a complaint only if a restart is left.

@@ -1,41 +1,37 @@
-//! A suicide that a `genmove` chose, if that isn't judged.
+//! A move that a `genmove` chose, if that isn't judged.
 ghost use Rattle.std.specs.Prelude.{◌≡◌, None, IsSome};
 ghost use Rattle.gtp_check_talk.specs.Said.{is_same_purpose};
 ghost use Rattle.gtp_check_app.specs.Turns.{PassesOver, purpose_in, state_of};
 ghost use Rattle.gtp_check_app.specs.Unjudged.{HasPassedOver, is_blamed, is_unjudged};
 
 use crate::check::{Check, purpose_in};
-use go_board::PlayFault;
-use gtp_check_course::{Course, Suicide};
+use gtp_check_course::{Course, Unasked};
 use gtp_check_judge::Kind;
 use gtp_check_talk::{Fault, Purpose};
 use gtp_process::{Process, Starter};
 
 /// Returns whether something is wrong that is judged.
-pub fn is_blamed(suicide: Suicide, fault: Option<Fault>) -> bool
-    ensures { result ≡ is_blamed suicide fault }
+pub fn is_blamed(unasked: Unasked, fault: Option<Fault>) -> bool
+    ensures { result ≡ is_blamed unasked fault }
 {
     match fault {
-        Some(fault) => !is_unjudged(suicide, fault),
+        Some(fault) => !is_unjudged(unasked, fault),
         None => false,
     }
 }
 
-/// Returns whether a `genmove` was answered with a suicide that isn't judged.
-fn is_unjudged(suicide: Suicide, fault: Fault) -> bool
-    ensures { result ≡ is_unjudged suicide fault }
+/// Returns whether a `genmove` was answered with a move that isn't judged.
+fn is_unjudged(unasked: Unasked, fault: Fault) -> bool
+    ensures { result ≡ is_unjudged unasked fault }
 {
-    matches!(
-        (suicide, fault),
-        (
-            Suicide::Unasked,
-            Fault::Wrote(Kind::Unlawful(PlayFault::Suicide))
-        )
-    )
+    match fault {
+        Fault::Wrote(Kind::Unlawful(cause)) => unasked.spares(cause),
+        _ => false,
+    }
 }
 
 impl<S: Starter> Check<S> {
-    /// Ends the engine, which chose a suicide that isn't judged. Counts that, and leaves the part of the lesson.
+    /// Ends the engine, which chose a move that isn't judged. Counts that, and leaves the part of the lesson.
     pub fn pass_over(&mut self)
         requires { IsSome self.old.engine }
         ensures passes { PassesOver S.Process.Process (state_of self.old) (state_of self.new) }
@@ -48,7 +44,7 @@ impl<S: Starter> Check<S> {
         self.examiner.lost();
         let _ = engine.end();
         leave_part(&mut self.course, purpose);
-        self.tally.count_suicide();
+        self.tally.count_unjudged();
     }
 }
 

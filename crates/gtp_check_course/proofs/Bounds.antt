@@ -8,7 +8,7 @@ use Rattle.gtp_check_course.specs.declared.openings.Opening.{Opening}
 use Rattle.gtp_check_course.specs.declared.openings.Opening.TheVariants as opening
 use Rattle.gtp_check_course.specs.Course.{Course, GoesOn, GoesTo, IsIn, Leaves, progress}
 use Rattle.gtp_check_course.specs.Laws.{Walks, counted, starts}
-use Rattle.gtp_check_course.specs.declared.suicides.Suicide.{Suicide}
+use Rattle.gtp_check_course.specs.declared.unasked.Unasked.{Unasked}
 use Rattle.gtp_check_course.specs.Openings.{opened}
 use Rattle.gtp_check_course.specs.Places.{half}
 use Rattle.std.proofs.Common.{Bool, true, false}
@@ -77,28 +77,28 @@ left lessons asked started old new held (inl over) = stays lessons asked started
 left lessons asked started old new held (inr on) =
     weaker lessons asked started new (goes_on lessons asked started old new held on)
 
-holds : (lessons : List Lesson) (scene_size : Option ℕ) (seed : ℕ) (suicide : Suicide) (asked started : ℕ)
-    (course : Course) → Walks lessons scene_size seed suicide asked started course
+holds : (lessons : List Lesson) (scene_size : Option ℕ) (seed : ℕ) (unasked : Unasked) (asked started : ℕ)
+    (course : Course) → Walks lessons scene_size seed unasked asked started course
     → Holds lessons asked started course
-holds lessons scene_size seed suicide asked started course Walks.begins = record { same = refl; few = omega arith }
-holds lessons scene_size seed suicide asked started course
+holds lessons scene_size seed unasked asked started course Walks.begins = record { same = refl; few = omega arith }
+holds lessons scene_size seed unasked asked started course
     (Walks.goes {asked = a} {started = s} {old = old} exam action walk goes) =
-    step lessons a s old course exam action (holds lessons scene_size seed suicide a s old walk) goes
-holds lessons scene_size seed suicide asked started course (Walks.leaves {old = old} walks leaves) =
-    left lessons asked started old course (holds lessons scene_size seed suicide asked started old walks) leaves
-holds lessons scene_size seed suicide asked started course (Walks.finds {old = old} is_loss walks) =
-    let held = holds lessons scene_size seed suicide asked started old walks in
+    step lessons a s old course exam action (holds lessons scene_size seed unasked a s old walk) goes
+holds lessons scene_size seed unasked asked started course (Walks.leaves {old = old} walks leaves) =
+    left lessons asked started old course (holds lessons scene_size seed unasked asked started old walks) leaves
+holds lessons scene_size seed unasked asked started course (Walks.finds {old = old} is_loss walks) =
+    let held = holds lessons scene_size seed unasked asked started old walks in
     record { same = held.same; few = held.few }
 
 few_half : (is : Bool) → half is ≤ 1
 few_half true = omega arith
 few_half false = omega arith
 
-pub bounded : (lessons : List Lesson) (scene_size : Option ℕ) (seed : ℕ) (suicide : Suicide) (asked started : ℕ)
-    (course : Course) → Walks lessons scene_size seed suicide asked started course → IsIn course.lessons course.place
+pub bounded : (lessons : List Lesson) (scene_size : Option ℕ) (seed : ℕ) (unasked : Unasked) (asked started : ℕ)
+    (course : Course) → Walks lessons scene_size seed unasked asked started course → IsIn course.lessons course.place
     → asked ≤ 67200000 * (length lessons + 1) + 5 * (started + 1)
-bounded lessons scene_size seed suicide asked started course walks inside =
-    let held : Holds lessons asked started course = holds lessons scene_size seed suicide asked started course walks in
+bounded lessons scene_size seed unasked asked started course walks inside =
+    let held : Holds lessons asked started course = holds lessons scene_size seed unasked asked started course walks in
     let within : course.place.lesson ≤ length lessons =
     subst (λ (l : List Lesson). course.place.lesson ≤ length l) held.same inside.lesson in
     let opened_few : opened course.opening ≤ 5 = few_opened course.opening in

@@ -3,9 +3,10 @@ pub mod Words
 pub mod Candidates
 pub mod OneQuestion
 pub mod ClearedBoard
-pub mod NoSuicide
+pub mod NotAsked
 pub mod AskedScenes
 pub mod SceneKos
 pub mod AnsweredKos
 pub mod PosedQuestions
 pub mod FreshLessons
+pub mod KoRulesAgree

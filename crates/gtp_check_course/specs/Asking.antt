@@ -111,7 +111,7 @@ Opens now command after Done new = ⊥
 
 -- the command isn't left out in the game
 abbrev pub IsWanted : Call → CheckCommand → Type 0
-IsWanted now command = ¬ IsLeftOut now.course.suicide now.exam.game command
+IsWanted now command = ¬ IsLeftOut now.course.unasked now.exam.game command
 
 -- A command is asked, and the step is over. Where it may not be asked, what the engine owes is waited for. Where it
 -- owes nothing, the command may not be asked in this game, and the step is passed over. So it is where the command may
@@ -124,7 +124,7 @@ Poses now command Wait new =
 Poses now command Skip new =
     (new ≡ after_step now)
     × ((now.exam.unanswered ≡ []) × (HasRoomFor now.exam command → ⊥)
-    ⊎ HasRoomFor now.exam command × IsLeftOut now.course.suicide now.exam.game command)
+    ⊎ HasRoomFor now.exam command × IsLeftOut now.course.unasked now.exam.game command)
 Poses now command Start new = ⊥
 Poses now command Restart new = ⊥
 Poses now command Kill new = ⊥

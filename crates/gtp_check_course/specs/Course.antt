@@ -1,18 +1,19 @@
 -- A course: its lessons, where it is in them, and what a call of it is.
-use Rattle.std.specs.Prelude.{◌≡◌, ℕ, ◌+◌, ◌<◌, ◌≤◌, min, nat_lt, ◌⊎◌, Bool, false, ◌&&◌, if◌then◌else◌}
-use Rattle.std.specs.Prelude.{List, [], length, slice_get, Option}
+use Rattle.std.specs.Prelude.{◌≡◌, ℕ, ◌+◌, ◌<◌, ◌≤◌, min, nat_lt, ◌⊎◌, Bool, true, false, ◌&&◌, if◌then◌else◌}
+use Rattle.std.specs.Prelude.{List, [], length, slice_get, Option, None}
+use Rattle.go_base.specs.declared.moves.Move.{Move}
 use Rattle.go_board.specs.Game.{GameRecord}
 use Rattle.go_board.specs.Refusals.{RefusesVertex}
-use Rattle.go_board.specs.declared.faults.PlayFault.TheVariants.{Suicide as SuicideFault}
+use Rattle.go_board.specs.declared.faults.PlayFault.{PlayFault}
+use Rattle.go_board.specs.declared.faults.PlayFault.TheVariants.{Suicide as SuicideFault, Ko as KoFault}
 use Rattle.gtp_wire.specs.declared.commands.Command.TheVariants as command
 use Rattle.gtp_check_judge.specs.declared.asking.CheckCommand.{CheckCommand}
-use Rattle.gtp_check_judge.specs.declared.asking.CheckCommand.TheVariants.{Match, PlayInFull}
+use Rattle.gtp_check_judge.specs.declared.asking.CheckCommand.TheVariants.{FinalScore, Match, PlayInFull}
 use Rattle.gtp_check_judge.specs.declared.exam.Exam.{Exam}
 use Rattle.gtp_check_judge.specs.Exam.{HasRoomFor}
 use Rattle.gtp_check_course.specs.declared.lessons.Lesson.{Lesson}
 use Rattle.gtp_check_course.specs.declared.places.Place.{Place}
-use Rattle.gtp_check_course.specs.declared.suicides.Suicide.{Suicide}
-use Rattle.gtp_check_course.specs.declared.suicides.Suicide.TheVariants.{Unasked}
+use Rattle.gtp_check_course.specs.declared.unasked.Unasked.{Unasked}
 use Rattle.gtp_check_course.specs.declared.openings.Opening.{Opening}
 use Rattle.gtp_check_course.specs.declared.openings.Opening.TheVariants as opening
 use Rattle.gtp_check_course.specs.declared.actions.Action.{Action}
@@ -25,7 +26,7 @@ use Rattle.gtp_check_course.specs.Lessons.{parts_of, stretches_of}
 
 -- The lessons of a course, where it is in them, and what of its opening the engine was asked since it was started. How
 -- much was found in its lesson so far, and how often the engine was lost in it; the size of the boards of scenes, once
--- it is known; the seed of what is drawn; and whether suicide is asked.
+-- it is known; the seed of what is drawn; and what isn't asked.
 pub record Course : Type 0 where
   pub lessons : List Lesson
   pub place : Place
@@ -34,11 +35,11 @@ pub record Course : Type 0 where
   pub losses : ℕ
   pub scene_size : Option ℕ
   pub seed : ℕ
-  pub suicide : Suicide
+  pub unasked : Unasked
 
 -- before the first start
-abbrev pub begun : List Lesson → Option ℕ → ℕ → Suicide → Course
-begun lessons scene_size seed suicide = record {
+abbrev pub begun : List Lesson → Option ℕ → ℕ → Unasked → Course
+begun lessons scene_size seed unasked = record {
   lessons = lessons;
   place = first_place;
   opening = opening.Name;
@@ -46,7 +47,7 @@ begun lessons scene_size seed suicide = record {
   losses = 0;
   scene_size = scene_size;
   seed = seed;
-  suicide = suicide;
+  unasked = unasked;
 }
 
 -- the place is one of the course, or the course is over
@@ -108,24 +109,33 @@ step_over lesson course =
 abbrev pub progress : Course → ℕ
 progress course = number course.place + opened course.opening
 
--- the same lessons, with the same suicide, further on
+-- the same lessons, with the same left out, further on
 pub record GoesOn (old new : Course) : Type 0 where
   pub lessons : new.lessons ≡ old.lessons
-  pub suicide : new.suicide ≡ old.suicide
+  pub unasked : new.unasked ≡ old.unasked
   pub further : progress old < progress new
 
--- ---- suicide
+-- ---- what is left out
 
--- a `play` that the rules refuse as suicide in this game: its stone's chain would have no liberty
-abbrev pub IsSuicide : GameRecord → CheckCommand → Type 0
-IsSuicide game (Match (command.Play move)) = RefusesVertex game move.colour move.vertex SuicideFault
-IsSuicide game (PlayInFull move) = RefusesVertex game move.colour move.vertex SuicideFault
-IsSuicide game _ = ⊥
+-- whether moves that are refused for this cause aren't asked
+abbrev pub spares : Unasked → PlayFault → Bool
+spares unasked SuicideFault = unasked.suicide
+spares unasked KoFault = unasked.ko
+spares unasked _ = false
 
--- A command is left out in this game: it is suicide, and that isn't asked. (Rule sets differ in whether it is legal.)
-pub record IsLeftOut (suicide : Suicide) (game : GameRecord) (command : CheckCommand) : Type 0 where
-  pub unasked : suicide ≡ Unasked
-  pub is : IsSuicide game command
+-- the move isn't asked in this game, for the cause for which the rules refuse it
+pub record IsSpared (unasked : Unasked) (game : GameRecord) (move : Move) : Type 0 where
+  pub fault : PlayFault
+  pub refuses : RefusesVertex game move.colour move.vertex fault
+  pub spared : spares unasked fault ≡ true
+
+-- A command is left out in this game: a `play` that isn't asked, however its colour is written, or a score, where scores
+-- aren't asked. (Rule sets differ in what is suicide and ko, and a score is an opinion.)
+abbrev pub IsLeftOut : Unasked → GameRecord → CheckCommand → Type 0
+IsLeftOut unasked game (Match (command.Play move)) = IsSpared unasked game move
+IsLeftOut unasked game (PlayInFull move) = IsSpared unasked game move
+IsLeftOut unasked game FinalScore = unasked.score ≡ true
+IsLeftOut unasked game _ = ⊥
 
 -- ---- a call
 
@@ -138,7 +148,7 @@ GoesTo old exam Start new = (exam.up ≡ false) × (new ≡ record old { opening
 GoesTo old exam Restart new = (exam.unanswered ≡ []) × GoesOn old new
 GoesTo old exam Kill new = (exam.unanswered ≡ []) × GoesOn old new
 GoesTo old exam (Ask command) new =
-    HasRoomFor exam command × ¬ IsLeftOut old.suicide exam.game command × GoesOn old new
+    HasRoomFor exam command × ¬ IsLeftOut old.unasked exam.game command × GoesOn old new
 GoesTo old exam Wait new = (0 < length exam.unanswered) × (new ≡ old)
 GoesTo old exam Skip new = GoesOn old new
 GoesTo old exam Done new = IsOver old × (new ≡ old)

@@ -1,5 +1,5 @@
 -- What holds of every course.
-use Rattle.std.specs.Prelude.{Bool, ◌≡◌, ℕ, ◌+◌, ◌*◌, ◌<◌, ◌≤◌, List, [], ◌∷◌, length, slice_get, Option, Some}
+use Rattle.std.specs.Prelude.{Bool, false, ◌≡◌, ℕ, ◌+◌, ◌*◌, ◌<◌, ◌≤◌, List, [], ◌∷◌, length, slice_get, Option, Some}
 use Rattle.go_base.specs.Handicap.{AllowsHandicap}
 use Rattle.go_base.specs.Colour.{other}
 use Rattle.go_base.specs.Size.{most_size}
@@ -8,9 +8,10 @@ use Rattle.go_base.specs.declared.colours.Colour.TheVariants.{Black, White}
 use Rattle.go_base.specs.declared.moves.Move.{Move}
 use Rattle.go_board.specs.Game.{GameRecord}
 use Rattle.go_board.specs.Refusals.{RefusesVertex}
-use Rattle.go_board.specs.declared.faults.PlayFault.TheVariants.{Suicide as SuicideFault}
+use Rattle.go_board.specs.declared.faults.PlayFault.{PlayFault}
 use Rattle.gtp_wire.specs.declared.commands.Command.TheVariants as command
 use Rattle.gtp_check_judge.specs.declared.asking.CheckCommand.{CheckCommand}
+use Rattle.gtp_check_judge.specs.declared.asking.CheckCommand.TheVariants.{FinalScore}
 use Rattle.gtp_check_judge.specs.Asking.{IsPlayOf}
 use Rattle.gtp_check_judge.specs.declared.exam.Exam.{Exam}
 use Rattle.gtp_check_course.specs.declared.actions.Action.{Action}
@@ -23,9 +24,8 @@ use Rattle.gtp_check_course.specs.declared.lessons.Lesson.{Lesson}
 use Rattle.gtp_check_course.specs.declared.lessons.Lesson.TheVariants as lesson
 use Rattle.gtp_check_course.specs.declared.stretches.Stretch.{Stretch}
 use Rattle.gtp_check_course.specs.declared.stretches.Stretch.TheVariants as stretch
-use Rattle.gtp_check_course.specs.declared.suicides.Suicide.{Suicide}
-use Rattle.gtp_check_course.specs.declared.suicides.Suicide.TheVariants.{Unasked}
-use Rattle.gtp_check_course.specs.Course.{Course, GoesTo, IsIn, Leaves, begun, with_finding}
+use Rattle.gtp_check_course.specs.declared.unasked.Unasked.{Unasked}
+use Rattle.gtp_check_course.specs.Course.{Course, GoesTo, IsIn, Leaves, begun, spares, with_finding}
 use Rattle.gtp_check_course.specs.Boards.{IsBoard}
 use Rattle.gtp_check_course.specs.Kos.{IsKo}
 use Rattle.gtp_check_course.specs.Lessons.{number_of, parts_of, stretches_of}
@@ -52,35 +52,39 @@ starts _ = 0
 -- The calls on a course of these lessons: how many of them asked a command, asked nothing or ended an engine, how many
 -- starts there were, and the course after them. Whatever the engine has answered, each call of `next` goes on. A part
 -- may be left at any time, and something may be found in an earlier one.
-pub data Walks (lessons : List Lesson) (scene_size : Option ℕ) (seed : ℕ) (suicide : Suicide)
+pub data Walks (lessons : List Lesson) (scene_size : Option ℕ) (seed : ℕ) (unasked : Unasked)
     : ℕ → ℕ → Course → Type 0 where
-  begins : Walks lessons scene_size seed suicide 0 0 (begun lessons scene_size seed suicide)
+  begins : Walks lessons scene_size seed unasked 0 0 (begun lessons scene_size seed unasked)
   goes : {asked started : ℕ} {old new : Course} (exam : Exam) (action : Action)
-      → Walks lessons scene_size seed suicide asked started old → GoesTo old exam action new
-      → Walks lessons scene_size seed suicide (counted action + asked) (starts action + started) new
+      → Walks lessons scene_size seed unasked asked started old → GoesTo old exam action new
+      → Walks lessons scene_size seed unasked (counted action + asked) (starts action + started) new
   leaves : {asked started : ℕ} {old new : Course}
-      → Walks lessons scene_size seed suicide asked started old → Leaves old new
-      → Walks lessons scene_size seed suicide asked started new
-  finds : {asked started : ℕ} {old : Course} (is_loss : Bool) → Walks lessons scene_size seed suicide asked started old
-      → Walks lessons scene_size seed suicide asked started (with_finding is_loss old)
+      → Walks lessons scene_size seed unasked asked started old → Leaves old new
+      → Walks lessons scene_size seed unasked asked started new
+  finds : {asked started : ℕ} {old : Course} (is_loss : Bool) → Walks lessons scene_size seed unasked asked started old
+      → Walks lessons scene_size seed unasked asked started (with_finding is_loss old)
 
 -- No more commands are asked, steps passed over and engines ended, all together, than the lessons have steps at most,
 -- and five after each start.
 abbrev pub EveryCourseIsBounded : Type 0
-EveryCourseIsBounded = (lessons : List Lesson) (scene_size : Option ℕ) (seed : ℕ) (suicide : Suicide)
-    (asked started : ℕ) (course : Course) → Walks lessons scene_size seed suicide asked started course
+EveryCourseIsBounded = (lessons : List Lesson) (scene_size : Option ℕ) (seed : ℕ) (unasked : Unasked)
+    (asked started : ℕ) (course : Course) → Walks lessons scene_size seed unasked asked started course
     → IsIn course.lessons course.place
     → asked ≤ 67200000 * (length lessons + 1) + 5 * (started + 1)
 
--- ---- suicide
+-- ---- what isn't asked
 
--- Where suicide isn't asked, no `play` that is asked is one in the examiner's game, by the rules of that, however its
--- colour is written.
-abbrev pub NoSuicideIsAsked : Type 0
-NoSuicideIsAsked = (lessons : List Lesson) (scene_size : Option ℕ) (seed asked started : ℕ) (old new : Course)
-    (exam : Exam) (command : CheckCommand) (move : Move) → Walks lessons scene_size seed Unasked asked started old
-    → IsPlayOf move command → GoesTo old exam (Ask command) new
-    → ¬ RefusesVertex exam.game move.colour move.vertex SuicideFault
+-- What isn't asked is left out throughout: where scores aren't asked, no `final_score` is; and no `play` is, however its
+-- colour is written, that the examiner's game refuses for a cause which isn't asked.
+pub record NothingUnaskedIsAsked : Type 0 where
+  pub plays : (lessons : List Lesson) (scene_size : Option ℕ) (seed : ℕ) (unasked : Unasked) (asked started : ℕ)
+      (old new : Course) (exam : Exam) (command : CheckCommand) (move : Move) (fault : PlayFault)
+      → Walks lessons scene_size seed unasked asked started old → IsPlayOf move command
+      → GoesTo old exam (Ask command) new → RefusesVertex exam.game move.colour move.vertex fault
+      → spares unasked fault ≡ false
+  pub scores : (lessons : List Lesson) (scene_size : Option ℕ) (seed : ℕ) (unasked : Unasked) (asked started : ℕ)
+      (old new : Course) (exam : Exam) → Walks lessons scene_size seed unasked asked started old
+      → GoesTo old exam (Ask FinalScore) new → unasked.score ≡ false
 
 -- ---- what stretches ask
 

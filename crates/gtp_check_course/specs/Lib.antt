@@ -11,3 +11,4 @@ pub mod Course
 pub mod Asking
 pub mod Posing
 pub mod Laws
+pub mod KoRules

@@ -38,7 +38,7 @@ pub record IsTurnOf (turn : Turn) (question : Question) : Type 0 where
 -- a command may be asked now, and is none that is left out
 pub record IsAskable (turn : Turn) (command : CheckCommand) : Type 0 where
   pub may : HasRoomFor turn.exam command
-  pub wanted : ¬ IsLeftOut turn.old.suicide turn.exam.game command
+  pub wanted : ¬ IsLeftOut turn.old.unasked turn.exam.game command
 
 abbrev pub play_of : Move → CheckCommand
 play_of move = Match (command.Play move)

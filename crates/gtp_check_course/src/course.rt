@@ -12,7 +12,7 @@ use crate::lessons::{Lesson, Lessons};
 use crate::openings::Opening;
 use crate::places::Place;
 use crate::stretches::Stretch;
-use crate::suicides::Suicide;
+use crate::unasked::Unasked;
 use go_base::{Move, Size};
 use go_board::Game;
 use gtp_check_judge::{Board as Known, CheckCommand, Examiner, Skill};
@@ -30,8 +30,8 @@ const UNDO: CheckCommand = CheckCommand::Match(Command::Undo);
 
 /// The commands that one engine is asked, one after the other.
 ///
-/// Which command comes next depends only on the lesson, the place in it, the size of scenes, the game, the seed and the
-/// suicide rule.
+/// Which command comes next depends only on the lesson, the place in it, the size of scenes, the game, the seed and what
+/// isn't asked.
 #[derive(Drop)]
 pub struct Course {
     lessons: Lessons,
@@ -41,7 +41,7 @@ pub struct Course {
     losses: u32,
     scene_size: Option<Size>,
     seed: u32,
-    suicide: Suicide,
+    unasked: Unasked,
 }
 
 impl Model for Course {
@@ -57,7 +57,7 @@ impl Model for Course {
       losses = c.losses;
       scene_size = c.scene_size;
       seed = c.seed;
-      suicide = c.suicide;
+      unasked = c.unasked;
     } };
 
     ghost invariant = { λ c. IsIn c.lessons.items c.place };
@@ -72,15 +72,15 @@ impl Course {
     ghost use Rattle.gtp_check_course.specs.Asking.{IsStep, IsTurn, Renews, Kills, Opens, Poses, Probes, Sees};
     ghost use Rattle.gtp_check_course.specs.Asking.{Finds, Freshens, Tries, call, draws_of, lesson_of};
     ghost use Rattle.gtp_check_course.specs.Openings.{opened};
-    ghost use Rattle.gtp_check_course.specs.Course.{IsLeftOut, IsSuicide};
+    ghost use Rattle.gtp_check_course.specs.Course.{IsLeftOut};
     ghost use Rattle.gtp_check_course.specs.Course.{begun, GoesTo, GoesOn, IsOver, IsRunning, Leaves};
     ghost use Rattle.gtp_check_course.specs.Course.{step_over, part_over, with_finding};
 
     /// Returns a course of these lessons, with this random seed. Scenes are asked on boards of the given size, which is
     /// at least 5. Without one they are asked on the smallest size from 5 that the engine accepts, which the first
-    /// lesson with scenes finds. If suicide is `Unasked`, no `play` that would be suicide is asked.
-    pub fn new(lessons: Lessons, scene_size: Option<Size>, seed: u32, suicide: Suicide) -> Course
-        ensures { result ≡ begun lessons.items scene_size seed suicide }
+    /// lesson with scenes finds. A command that `unasked` leaves out isn't asked.
+    pub fn new(lessons: Lessons, scene_size: Option<Size>, seed: u32, unasked: Unasked) -> Course
+        ensures { result ≡ begun lessons.items scene_size seed unasked }
     {
         Course {
             lessons,
@@ -90,7 +90,7 @@ impl Course {
             losses: 0,
             scene_size,
             seed,
-            suicide,
+            unasked,
         }
     }
 
@@ -103,10 +103,10 @@ impl Course {
     /// allows each command that is asked.
     ///
     /// A step is passed over only if it asks nothing, if its command may not be asked although nothing is unanswered,
-    /// if it is a suicide that isn't asked, or if it is a legal probe and the engine lacks `undo`. The course leaves a
-    /// part whose size the engine refused. The engine is ended and started again at the beginning of each lesson but
-    /// the first, if a step says so, or if no more ids are left, and only once it owes no reply. After ten findings in
-    /// a lesson, or three losses of the engine, the next lesson begins.
+    /// if it is left out, or if it is a legal probe and the engine lacks `undo`. The course leaves a part whose size the
+    /// engine refused. The engine is ended and started again at the beginning of each lesson but the first, if a step
+    /// says so, or if no more ids are left, and only once it owes no reply. After ten findings in a lesson, or three
+    /// losses of the engine, the next lesson begins.
     pub fn next(&mut self, examiner: &Examiner) -> Action
         ensures goes { GoesTo self.old examiner.now.exam result self.new }
         ensures over { IsOver self.old → result ≡ Done }
@@ -259,7 +259,7 @@ impl Course {
     ) -> Action
         requires running { IsRunning self.old }
         requires later { opened self.old.opening < opened after }
-        requires no_move { (game : GameRecord) → ¬ IsSuicide game command }
+        requires kept { (unasked : Unasked) (game : GameRecord) → ¬ IsLeftOut unasked game command }
         ensures goes { GoesTo self.old examiner.now.exam result self.new }
         ensures opens { Opens (call lesson self.old examiner.now.exam) command after result self.new }
     {
@@ -270,12 +270,12 @@ impl Course {
         Action::Ask(command)
     }
 
-    /// Returns whether a command is a suicide that isn't asked.
+    /// Returns whether a command is left out.
     fn leaves_out(&self, command: CheckCommand, examiner: &Examiner) -> bool
-        ensures is { result ≡ true → IsLeftOut self.now.suicide examiner.now.exam.game command }
-        ensures only { IsLeftOut self.now.suicide examiner.now.exam.game command → result ≡ true }
+        ensures is { result ≡ true → IsLeftOut self.now.unasked examiner.now.exam.game command }
+        ensures only { IsLeftOut self.now.unasked examiner.now.exam.game command → result ≡ true }
     {
-        self.suicide.leaves_out(examiner.game(), command)
+        self.unasked.leaves_out(examiner.game(), command)
     }
 
     /// Asks the engine a command, if it may be asked. The step is passed over if the command may not be asked in this

@@ -1,5 +1,6 @@
 //! Laws of the course. Each is the contract of a function that does nothing.
-ghost use Rattle.gtp_check_course.specs.Laws.{EveryCourseIsBounded, EachKoIsAnswered, NoSuicideIsAsked};
+ghost use Rattle.gtp_check_course.specs.KoRules.{EachKoRuleAgrees};
+ghost use Rattle.gtp_check_course.specs.Laws.{EveryCourseIsBounded, EachKoIsAnswered, NothingUnaskedIsAsked};
 ghost use Rattle.gtp_check_course.specs.Laws.{EachLessonBeginsAnew, EachRuleIsAskedInBoth};
 ghost use Rattle.gtp_check_course.specs.Posing.{EachQuestionIsAsked};
 
@@ -16,9 +17,17 @@ pub fn each_question_is_asked()
     ensures { EachQuestionIsAsked }
 {}
 
-/// If suicide isn't asked, no `play` that is asked is one in the examiner's game, however its colour is written.
-pub fn no_suicide_is_asked()
-    ensures { NoSuicideIsAsked }
+/// What isn't asked is left out throughout: `final_score`, and each `play` that the examiner's game refuses as suicide, or
+/// for ko, however its colour is written.
+pub fn nothing_unasked_is_asked()
+    ensures { NothingUnaskedIsAsked }
+{}
+
+/// If ko isn't asked, and the examiner's game is one of positional superko, simple ko, situational superko and positional
+/// superko agree on each `play` that is asked. What a `genmove` may choose by one of them is legal in that game, or one
+/// that ko refuses.
+pub fn each_ko_rule_agrees()
+    ensures { EachKoRuleAgrees }
 {}
 
 /// Each lesson but `start` begins with a start of the engine, where it comes after another one.

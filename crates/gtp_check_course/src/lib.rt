@@ -21,9 +21,9 @@ mod plan;
 pub mod scenes;
 mod spellings;
 pub mod stretches;
-mod suicides;
 mod sweeps;
 mod tables;
+mod unasked;
 
 pub use actions::Action;
 pub use course::Course;
@@ -31,4 +31,4 @@ pub use lessons::{LESSON_NAMES, LESSONS, Lesson, Lessons};
 pub use openings::Opening;
 pub use places::Place;
 pub use plan::Plan;
-pub use suicides::Suicide;
+pub use unasked::Unasked;

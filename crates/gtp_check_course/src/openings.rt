@@ -1,7 +1,8 @@
 //! The opening: what an engine is asked after each start.
 ghost use Rattle.std.specs.Prelude.{◌≡◌, ◌<◌, IfSome};
 ghost use Rattle.go_board.specs.Game.{GameRecord};
-ghost use Rattle.gtp_check_course.specs.Course.{IsSuicide};
+ghost use Rattle.gtp_check_course.specs.Course.{IsLeftOut};
+ghost use Rattle.gtp_check_course.specs.declared.unasked.Unasked.{Unasked};
 ghost use Rattle.gtp_check_course.specs.Openings.{opened, opening_next};
 
 use gtp_check_judge::{CheckCommand, Known};
@@ -28,7 +29,8 @@ impl Opening {
     pub(crate) fn next(self) -> Option<(CheckCommand, Opening)>
         ensures next { result ≡ opening_next self }
         ensures further { IfSome result (λ next. opened self < opened next.1) }
-        ensures no_move { IfSome result (λ next. (game : GameRecord) → ¬ IsSuicide game next.0) }
+        ensures kept { IfSome result (λ next. (unasked : Unasked) (game : GameRecord)
+            → ¬ IsLeftOut unasked game next.0) }
     {
         match self {
             Opening::Name => Some((CheckCommand::Name, Opening::Version)),

@@ -1,6 +1,6 @@
 //! The plan of a check.
 use crate::lessons::Lessons;
-use crate::suicides::Suicide;
+use crate::unasked::Unasked;
 use go_base::Size;
 use go_board::KoRule;
 
@@ -13,8 +13,8 @@ pub struct Plan<'a> {
     pub scene_size: Option<Size>,
     /// The ko rule of a correct engine.
     pub rule: KoRule,
-    /// The suicide rule.
-    pub suicide: Suicide,
+    /// What isn't asked.
+    pub unasked: Unasked,
     /// The random seed.
     pub seed: u32,
     /// The lessons to run, in their order.

@@ -18,8 +18,8 @@ pub record IsAskedMore (count : ℕ) (old new : Exam) : Type 0 where
 module _ {P : Type 0} (tries : Trial) (first : Dialogue P) where
   -- the conversation goes on
   pub asked_on : (known : Ghosts P) (start : Dialogue P) {commands : List CheckCommand} (last : Dialogue P)
-      → Spares known tries.suicide start first → AreAsked tries first commands last
-      → Spares known tries.suicide start last
+      → Spares known tries.unasked start first → AreAsked tries first commands last
+      → Spares known tries.unasked start last
   asked_on known start last spares none = spares
   asked_on known start last spares (one_more {mid = mid} command more wanted asked) =
       asks_so tries.purpose command (asked_on known start mid spares more) wanted asked

@@ -18,7 +18,7 @@ module _ {P : Type 0} (known : Ghosts P) (tries : Trial) (before : Standing P) (
   -- a trial in which something was wrong
   pub trial_wrong : (fault : Fault) (found : Wrong) → mid ≡ started before.check
       → start ≡ begun_with mid.exam process before.notes → new ≡ with_exam mid engine.exam
-      → Tries before.asked has tries.line (Ok process) → SparesToEnd known tries.suicide start fault engine
+      → Tries before.asked has tries.line (Ok process) → SparesToEnd known tries.unasked start fault engine
       → AsksFirst tries.purpose tries.commands engine.talk → known.leaves engine.process ending
       → found ≡ wrong_with fault engine ending
       → IsTrial known tries before (Some found) (standing (after_loss new) has engine.notes)
@@ -28,7 +28,7 @@ module _ {P : Type 0} (known : Ghosts P) (tries : Trial) (before : Standing P) (
   -- a trial in which nothing was wrong
   pub trial_right : mid ≡ started before.check → start ≡ begun_with mid.exam process before.notes
       → new ≡ with_exam mid engine.exam → Tries before.asked has tries.line (Ok process)
-      → Spares known tries.suicide start engine → AsksAll tries engine
+      → Spares known tries.unasked start engine → AsksAll tries engine
       → known.leaves engine.process ending
       → IsTrial known tries before None (standing (after_loss new) has engine.notes)
   trial_right mid-is start-is new-is tried converses asked left =

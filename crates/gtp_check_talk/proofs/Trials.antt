@@ -9,7 +9,7 @@ use Rattle.std.proofs.Math.Seq.{take-append_seam}
 use Rattle.gtp_process.specs.declared.starter.Process.{Ghosts}
 use Rattle.gtp_check_judge.specs.declared.asking.CheckCommand.{CheckCommand}
 use Rattle.gtp_check_judge.specs.declared.exam.Exam.{Exam}
-use Rattle.gtp_check_course.specs.declared.suicides.Suicide.{Suicide}
+use Rattle.gtp_check_course.specs.declared.unasked.Unasked.{Unasked}
 use Rattle.gtp_check_talk.specs.declared.engine.Engine.{Engine}
 use Rattle.gtp_check_talk.specs.declared.fault.Fault.{Fault}
 use Rattle.gtp_check_talk.specs.declared.notes.Notes.{Notes}
@@ -105,15 +105,15 @@ next_of old rest commands talk count is more few =
     ∙ ap (λ (n : ℕ). slice_get (old ++ rest) n) long ∙ at_back old rest count
 
 -- where nothing waits, the next one is held back
-pub next_may_not : (suicide : Suicide) (exam : Exam) (talk : List Said) (waiting : List ℕ)
+pub next_may_not : (unasked : Unasked) (exam : Exam) (talk : List Said) (waiting : List ℕ)
     (next : Option CheckCommand) → waiting ≡ []
-    → IfSome next (λ command. IsFull talk waiting ⊎ IsHeldBack suicide exam command)
-    → IfSome next (IsHeldBack suicide exam)
-next_may_not suicide exam talk waiting None none h = h
-next_may_not suicide exam talk waiting (Some command) none h =
+    → IfSome next (λ command. IsFull talk waiting ⊎ IsHeldBack unasked exam command)
+    → IfSome next (IsHeldBack unasked exam)
+next_may_not unasked exam talk waiting None none h = h
+next_may_not unasked exam talk waiting (Some command) none h =
     let empty : length waiting ≡ 0 = ap (λ (lines : List ℕ). length lines) none in
-    elim h as (λ _. IsHeldBack suicide exam command) [
-      | inl full ↦ elim full as (λ _. IsHeldBack suicide exam command) [
+    elim h as (λ _. IsHeldBack unasked exam command) [
+      | inl full ↦ elim full as (λ _. IsHeldBack unasked exam command) [
         | inl long ↦ absurd (omega (arith, long))
         | inr pieces ↦ absurd (omega (arith, pieces.1))
       ]

@@ -32,7 +32,7 @@ use Rattle.gtp_check_judge.specs.Judging.{oldest, refused_by}
 use Rattle.gtp_check_judge.specs.Check.{Check, after_loss, started, with_exam}
 use Rattle.gtp_check_course.specs.declared.lessons.Lesson.{Lesson}
 use Rattle.gtp_check_course.specs.declared.lessons.Lesson.TheVariants as lesson
-use Rattle.gtp_check_course.specs.declared.suicides.Suicide.{Suicide}
+use Rattle.gtp_check_course.specs.declared.unasked.Unasked.{Unasked}
 use Rattle.gtp_check_course.specs.Course.{IsLeftOut}
 use Rattle.gtp_check_course.specs.Lessons.{is_in_pieces}
 use Rattle.gtp_check_judge.specs.Exam.{Asks, HasRoomFor, Hearing, Hears, HearsDown, hearing}
@@ -317,26 +317,26 @@ abbrev pub EndsSo : {P : Type 0} → Ghosts P → Dialogue P → Option Fault �
 EndsSo known start None after = Converses known start after
 EndsSo known start (Some fault) after = EndsWrong known start fault after
 
--- The same, where no command was asked that is left out in the game: none was suicide, where that isn't asked.
-pub data Spares {P : Type 0} (known : Ghosts P) (suicide : Suicide) (start : Dialogue P) : Dialogue P → Type 0 where
-  begins_so : Spares known suicide start start
+-- The same, where no command was asked that is left out in the game.
+pub data Spares {P : Type 0} (known : Ghosts P) (unasked : Unasked) (start : Dialogue P) : Dialogue P → Type 0 where
+  begins_so : Spares known unasked start start
   asks_so : {before after : Dialogue P} (purpose : Purpose) (command : CheckCommand)
-      → Spares known suicide start before → ¬ IsLeftOut suicide before.exam.game command
-      → IsAsked purpose before command after → Spares known suicide start after
+      → Spares known unasked start before → ¬ IsLeftOut unasked before.exam.game command
+      → IsAsked purpose before command after → Spares known unasked start after
   exchanges_so : {before after : Dialogue P}
-      → Spares known suicide start before → IsExchanged known before None after → Spares known suicide start after
+      → Spares known unasked start before → IsExchanged known before None after → Spares known unasked start after
 
 -- such a conversation ended with something wrong
-pub record SparesToEnd {P : Type 0} (known : Ghosts P) (suicide : Suicide) (start : Dialogue P) (fault : Fault)
+pub record SparesToEnd {P : Type 0} (known : Ghosts P) (unasked : Unasked) (start : Dialogue P) (fault : Fault)
     (after : Dialogue P) : Type 0 where
   pub before : Dialogue P
-  pub spares : Spares known suicide start before
+  pub spares : Spares known unasked start before
   pub exchanged : IsExchanged known before (Some fault) after
 
 -- so it ended: with something wrong, or without
-abbrev pub EndsSparing : {P : Type 0} → Ghosts P → Suicide → Dialogue P → Option Fault → Dialogue P → Type 0
-EndsSparing known suicide start None after = Spares known suicide start after
-EndsSparing known suicide start (Some fault) after = SparesToEnd known suicide start fault after
+abbrev pub EndsSparing : {P : Type 0} → Ghosts P → Unasked → Dialogue P → Option Fault → Dialogue P → Type 0
+EndsSparing known unasked start None after = Spares known unasked start after
+EndsSparing known unasked start (Some fault) after = SparesToEnd known unasked start fault after
 
 -- ---- a conversation that ended with something wrong
 
@@ -408,34 +408,34 @@ pub record AsksFirst (purpose : Purpose) (commands : List CheckCommand) (talk : 
   pub order : commands_of talk ≡ take (length talk) commands
   pub purposes : AreFor purpose talk
 
--- The command may not be asked in this game, or is left out: it is suicide, and that isn't asked.
-abbrev pub IsHeldBack : Suicide → Exam → CheckCommand → Type 0
-IsHeldBack suicide exam command = (¬ HasRoomFor exam command) ⊎ IsLeftOut suicide exam.game command
+-- The command may not be asked in this game, or is left out.
+abbrev pub IsHeldBack : Unasked → Exam → CheckCommand → Type 0
+IsHeldBack unasked exam command = (¬ HasRoomFor exam command) ⊎ IsLeftOut unasked exam.game command
 
 -- what is tried: these commands, each for this purpose, on an engine that is asked for by this command line; and
--- whether a `play` is asked that would be suicide
+-- what isn't asked
 pub record Trial : Type 0 where
   pub line : List Text
   pub purpose : Purpose
   pub commands : List CheckCommand
-  pub suicide : Suicide
+  pub unasked : Unasked
 
-abbrev pub trial : List Text → Purpose → List CheckCommand → Suicide → Trial
-trial line purpose commands suicide = record {
+abbrev pub trial : List Text → Purpose → List CheckCommand → Unasked → Trial
+trial line purpose commands unasked = record {
   line = line;
   purpose = purpose;
   commands = commands;
-  suicide = suicide;
+  unasked = unasked;
 }
 
 abbrev pub trial_of : TrialOfCommands → Trial
-trial_of tries = trial (program_line tries.words.now) tries.purpose tries.commands.now tries.suicide
+trial_of tries = trial (program_line tries.words.now) tries.purpose tries.commands.now tries.unasked
 
 -- An engine that is up was asked all of the commands. Or it was asked the first of them, and the next one may not be
 -- asked in this game, or is left out. It was sent all that it was asked, and has answered it.
 pub record AsksAll {P : Type 0} (tries : Trial) (engine : Dialogue P) : Type 0 where
   pub first : AsksFirst tries.purpose tries.commands engine.talk
-  pub next : IfSome (slice_get tries.commands (length engine.talk)) (IsHeldBack tries.suicide engine.exam)
+  pub next : IfSome (slice_get tries.commands (length engine.talk)) (IsHeldBack tries.unasked engine.exam)
   pub up : engine.exam.up ≡ true
   pub sent : engine.waiting ≡ []
   pub answered : engine.exam.unanswered ≡ []
@@ -463,12 +463,12 @@ pub data IsTrial {P : Type 0} (known : Ghosts P) (tries : Trial) (before : Stand
       → IsTrial known tries before None (record before { asked = has })
   right : {has : Attempts P} {engine : Dialogue P} (process : P) (ending : Ending)
       → Tries before.asked has tries.line (Ok process)
-      → Spares known tries.suicide (begun_with (started before.check).exam process before.notes) engine
+      → Spares known tries.unasked (begun_with (started before.check).exam process before.notes) engine
       → AsksAll tries engine → known.leaves engine.process ending
       → IsTrial known tries before None (standing (ended_with before.check engine.exam) has engine.notes)
   wrong : {has : Attempts P} {engine : Dialogue P} (process : P) (ending : Ending) (fault : Fault)
       → Tries before.asked has tries.line (Ok process)
-      → SparesToEnd known tries.suicide (begun_with (started before.check).exam process before.notes) fault engine
+      → SparesToEnd known tries.unasked (begun_with (started before.check).exam process before.notes) fault engine
       → AsksFirst tries.purpose tries.commands engine.talk → known.leaves engine.process ending
       → IsTrial known tries before (Some (wrong_with fault engine ending))
       (standing (ended_with before.check engine.exam) has engine.notes)

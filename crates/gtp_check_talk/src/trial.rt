@@ -14,7 +14,7 @@ use crate::engine::{Ended, Engine, Room};
 use crate::fault::Fault;
 use crate::notes::Notes;
 use crate::said::{Purpose, Said};
-use gtp_check_course::{Lesson, Suicide};
+use gtp_check_course::{Lesson, Unasked};
 use gtp_check_judge::{CheckCommand, Examiner};
 use gtp_process::{Process, StartFault, Starter};
 use std::alloc::{AllocError, Global};
@@ -81,8 +81,8 @@ pub struct Trial<'t> {
     pub commands: &'t [CheckCommand],
     /// The lesson and part that each of them is asked for.
     pub purpose: Purpose,
-    /// Whether a `play` that would be suicide is asked.
-    pub suicide: Suicide,
+    /// What isn't asked.
+    pub unasked: Unasked,
 }
 
 /// Starts a new engine, asks it the commands of a trial, and ends it. Returns what is wrong with it, if anything, and
@@ -139,7 +139,7 @@ fn ask_all<P: Process>(
     notes: &mut Notes,
 ) -> Result<Option<Fault>, AllocError>
     requires up { examiner.old.exam.up ≡ true }
-    ensures ends { IfOk result (λ fault. EndsSparing P.Process trial.now.suicide
+    ensures ends { IfOk result (λ fault. EndsSparing P.Process trial.now.unasked
         (dialogue engine.old examiner.old.exam notes.old) fault
         (dialogue engine.new examiner.new.exam notes.new)) }
     ensures check { examiner.new ≡ with_exam examiner.old examiner.new.exam }
@@ -175,13 +175,13 @@ fn ask_some<P: Process>(
     ensures few { IfOk result (λ count. count ≤ length commands.now) }
     ensures most { IfOk result (λ count. IfSome (slice_get commands.now count) (λ next.
         IsFull engine.new.talk.items engine.new.waiting.items
-        ⊎ IsHeldBack trial.now.suicide examiner.new.exam next)) }
+        ⊎ IsHeldBack trial.now.unasked examiner.new.exam next)) }
     ensures check { examiner.new ≡ with_exam examiner.old examiner.new.exam }
 {
     let purpose = trial.purpose;
     for index in 0..commands.len() {
         let command = commands[index];
-        if !engine.has_room() || is_held_back(examiner, &command, trial.suicide) {
+        if !engine.has_room() || is_held_back(examiner, &command, trial.unasked) {
             return Ok(index);
         }
         engine.ask(examiner, command, purpose, notes)?;
@@ -190,10 +190,10 @@ fn ask_some<P: Process>(
 }
 
 /// Returns whether a command may not be asked of the engine now, or is left out.
-fn is_held_back(examiner: &Examiner, command: &CheckCommand, suicide: Suicide) -> bool
-    ensures is { result ≡ true → IsHeldBack suicide examiner.now.exam command.now }
+fn is_held_back(examiner: &Examiner, command: &CheckCommand, unasked: Unasked) -> bool
+    ensures is { result ≡ true → IsHeldBack unasked examiner.now.exam command.now }
     ensures may { result ≡ false → HasRoomFor examiner.now.exam command.now }
-    ensures wanted { result ≡ false → ¬ IsLeftOut suicide examiner.now.exam.game command.now }
+    ensures wanted { result ≡ false → ¬ IsLeftOut unasked examiner.now.exam.game command.now }
 {
-    !examiner.has_room(command) || suicide.leaves_out(examiner.game(), *command)
+    !examiner.has_room(command) || unasked.leaves_out(examiner.game(), *command)
 }

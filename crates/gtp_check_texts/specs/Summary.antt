@@ -28,16 +28,17 @@ shown_or None other = other
 shown_or (Some beginning) other = quoted beginning.items
 
 -- the ko rule of a right engine
-abbrev pub ko_text : KoRule → List ℕ
-ko_text Simple = codes ", simple ko\n"
-ko_text Positional = codes ", positional ko\n"
+abbrev pub ko_text : KoRule → Bool → List ℕ
+ko_text rule true = codes ", ko unasked\n"
+ko_text Simple false = codes ", simple ko\n"
+ko_text Positional false = codes ", positional ko\n"
 
 -- the engine's name and version, the seed and the ko rule
 abbrev pub first_line : Plan → Notes → List ℕ
 first_line plan notes = concat (
     codes "check: " ∷ shown_or notes.name (codes "an engine without a name") ∷
     codes ", version " ∷ shown_or notes.version (codes "unknown") ∷
-    codes ", seed " ∷ decimal plan.seed ∷ ko_text plan.rule ∷ [])
+    codes ", seed " ∷ decimal plan.seed ∷ ko_text plan.rule plan.unasked.ko ∷ [])
 
 -- ---- the last lines
 
@@ -137,15 +138,15 @@ sizes_line sizes = concat (codes "check: it refuses the sizes" ∷ concat (map s
 abbrev pub refused_line : List ℕ → List ℕ
 refused_line sizes = if length sizes == 0 then [] else sizes_line sizes
 
--- how many moves that a `genmove` chose were suicide, and that they weren't judged
-abbrev pub suicides_text : ℕ → List ℕ
-suicides_text suicides = concat (
-    codes "check: " ∷ counted_text suicides (codes " suicide") ∷
+-- how many moves that a `genmove` chose weren't judged
+abbrev pub unjudged_text : ℕ → List ℕ
+unjudged_text unjudged = concat (
+    codes "check: " ∷ counted_text unjudged (codes " move") ∷
     codes " by genmove, not judged, as the options say\n" ∷ [])
 
 -- the same, where there are any
-abbrev pub suicides_line : ℕ → List ℕ
-suicides_line suicides = if suicides == 0 then [] else suicides_text suicides
+abbrev pub unjudged_line : ℕ → List ℕ
+unjudged_line unjudged = if unjudged == 0 then [] else unjudged_text unjudged
 
 -- the last line: how many commands, starts and complaints
 abbrev pub counts_line : ℕ → ℕ → ℕ → List ℕ
@@ -155,7 +156,7 @@ counts_line commands starts complaints = concat (
     codes ", " ∷ counted_text complaints (codes " complaint") ∷ codes "\n" ∷ [])
 
 -- The last lines: complaints that aren't shown, lessons that weren't asked, those in which no move was answered, what the
--- engine lacks, how far it takes back, what it refuses, the suicides that weren't judged, and the counts.
+-- engine lacks, how far it takes back, what it refuses, the moves that weren't judged, and the counts.
 abbrev pub last_lines : Plan → Notes → Ending → List ℕ
 last_lines plan notes ending = concat (
     hidden_lines ending.hidden.now ∷
@@ -163,4 +164,4 @@ last_lines plan notes ending = concat (
     missed_lines ending.over.now ending.missed.now ∷
     unplayed_lines plan.lessons.items ending.missed.now notes.answered.items ∷
     lack_lines notes ∷ undos_line notes.most_undos ∷ refused_line notes.refused.items ∷
-    suicides_line ending.suicides ∷ counts_line notes.commands ending.starts ending.complaints ∷ [])
+    unjudged_line ending.unjudged ∷ counts_line notes.commands ending.starts ending.complaints ∷ [])

@@ -7,7 +7,7 @@ ghost use Rattle.gtp_check_texts.specs.Summary.{hidden_of, ko_text};
 ghost use Rattle.gtp_check_texts.specs.Summary.{is_unplayed, unplayed_line, unplayed_lines};
 ghost use Rattle.gtp_check_texts.specs.Summary.{lack_line, lack_lines, last_lines, lessons_line, missed_lines, plural};
 ghost use Rattle.gtp_check_texts.specs.Summary.{refused_line, shown_or, sizes_line, spaced_name, spaced_size};
-ghost use Rattle.gtp_check_texts.specs.Summary.{suicides_line, suicides_text, undos_line, unstarted_line};
+ghost use Rattle.gtp_check_texts.specs.Summary.{undos_line, unjudged_line, unjudged_text, unstarted_line};
 
 use crate::texts::add_all;
 use arrayvec::ArrayVec;
@@ -50,7 +50,7 @@ pub fn first_line(alloc: Global, plan: &Plan<'_>, notes: &Notes) -> Result<Vec<u
             &shown_or(&notes.version, b"unknown"),
             b", seed ",
             &write_int(plan.seed),
-            ko_text(plan.rule),
+            ko_text(plan.rule, plan.unasked.ko),
         ],
     )?;
     Ok(text)
@@ -69,13 +69,14 @@ fn shown_or(beginning: &Option<Beginning>, other: &[u8]) -> ArrayVec<u8, 322>
     shown
 }
 
-/// Returns the ko rule, as the end of the first line.
-fn ko_text(rule: KoRule) -> &'static [u8]
-    ensures { result.now ≡ ko_text rule }
+/// Returns the ko rule, or that ko isn't asked, as the end of the first line.
+fn ko_text(rule: KoRule, is_unasked: bool) -> &'static [u8]
+    ensures { result.now ≡ ko_text rule is_unasked }
 {
-    match rule {
-        KoRule::Simple => b", simple ko\n",
-        KoRule::Positional => b", positional ko\n",
+    match (rule, is_unasked) {
+        (_, true) => b", ko unasked\n",
+        (KoRule::Simple, false) => b", simple ko\n",
+        (KoRule::Positional, false) => b", positional ko\n",
     }
 }
 
@@ -92,8 +93,8 @@ pub struct Ending<'c> {
     pub starts: u32,
     /// How many complaints there are.
     pub complaints: u32,
-    /// How many suicides by `genmove` weren't judged.
-    pub suicides: u32,
+    /// How many moves by `genmove` weren't judged.
+    pub unjudged: u32,
 }
 
 /// Returns the last lines: what wasn't shown, what wasn't asked and why, and the counts.
@@ -117,7 +118,7 @@ pub fn last_lines(
     add_lacks(&mut text, notes)?;
     add_most_undos(&mut text, notes.most_undos)?;
     add_refused(&mut text, &notes.refused)?;
-    add_suicides(&mut text, ending.suicides)?;
+    add_unjudged(&mut text, ending.unjudged)?;
     add_counts(&mut text, notes.commands, ending.starts, ending.complaints)?;
     Ok(text)
 }
@@ -359,23 +360,23 @@ fn add_size(text: &mut Vec<u8>, size: u32) -> Result<(), AllocError>
     Ok(())
 }
 
-/// Appends how many suicides that a `genmove` chose weren't judged, if there are any.
-fn add_suicides(text: &mut Vec<u8>, suicides: u32) -> Result<(), AllocError>
-    ensures { OnOk result (text.new.items ≡ text.old.items ++ suicides_line suicides) }
+/// Appends how many moves that a `genmove` chose weren't judged, if there are any.
+fn add_unjudged(text: &mut Vec<u8>, unjudged: u32) -> Result<(), AllocError>
+    ensures { OnOk result (text.new.items ≡ text.old.items ++ unjudged_line unjudged) }
 {
-    if suicides == 0 {
+    if unjudged == 0 {
         return Ok(());
     }
-    add_suicides_text(text, suicides)?;
+    add_unjudged_text(text, unjudged)?;
     Ok(())
 }
 
 /// Appends the line that this many weren't judged.
-fn add_suicides_text(text: &mut Vec<u8>, suicides: u32) -> Result<(), AllocError>
-    ensures { OnOk result (text.new.items ≡ text.old.items ++ suicides_text suicides) }
+fn add_unjudged_text(text: &mut Vec<u8>, unjudged: u32) -> Result<(), AllocError>
+    ensures { OnOk result (text.new.items ≡ text.old.items ++ unjudged_text unjudged) }
 {
     text.extend_from_slice(b"check: ")?;
-    add_count(text, suicides, b" suicide")?;
+    add_count(text, unjudged, b" move")?;
     text.extend_from_slice(b" by genmove, not judged, as the options say\n")?;
     Ok(())
 }

@@ -2,7 +2,7 @@
 
 The standard's floats are those that 32 bits can hold. An `undo` may fail where only a part of the
 history is kept, and is used up. A score is an opinion: the engine decides how stones are counted,
-and what an unfinished game is worth. Rules of suicide differ.
+and what an unfinished game is worth. Rules of suicide and of ko differ.
 """
 from __future__ import annotations
 
@@ -13,7 +13,7 @@ from typing import Any, Dict, Iterable, List, Optional, Type
 from tests.engines.wrong.plain import Plain, snake_case
 from tests.references.engine.engine import Failure
 from tests.references.engine.game import POSITIONAL, Board, filled
-from tests.references.engine.values import BLACK, WHITE, Colour, Point, Vertex
+from tests.references.engine.values import BLACK, WHITE, Colour, Point, Vertex, other
 
 
 def single(number: float) -> float:
@@ -280,6 +280,19 @@ class FillsOnePoint(AllowsSuicide):
 
     def choose(self, colour: Colour) -> Vertex:
         return 1, 1
+
+
+# ---- ko
+
+
+class SituationalKo(Plain):
+    """A play may not make a board again after which the same colour was to move (situational
+    superko)."""
+
+    def is_ko(self, board: Board, colour: Colour, point: Point) -> bool:
+        first = WHITE if self.first_board() else BLACK
+        to_move = [first, *(other(move.colour) for move in self.moves)]
+        return (board, other(colour)) in zip(self.boards, to_move)
 
 
 # ---- all of them

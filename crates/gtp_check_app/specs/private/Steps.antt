@@ -135,7 +135,7 @@ module _ {P O E : Type 0} (known : Known P O E) (plan : Plan) where
     pub next : State P
     pub line : List (List ℕ)
     pub said : List (List ℕ)
-    pub first : WritesFirst known.processes plan before.now.state (is_blamed plan.suicide fault) next line
+    pub first : WritesFirst known.processes plan before.now.state (is_blamed plan.unasked fault) next line
     pub complains : Complains known.processes plan (moment next before.now.asked) fault after.now said
     pub flushed : AreFlushed known.outs (line ++ said) before.streams.output after.streams.output
     pub shown : IsShown known.errs plan.shows_progress (clearing line ++ looking said)

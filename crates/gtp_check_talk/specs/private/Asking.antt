@@ -9,6 +9,6 @@ pub data AreAsked {P : Type 0} (tries : Trial) (first : Dialogue P)
     : List CheckCommand → Dialogue P → Type 0 where
   none : AreAsked tries first [] first
   one_more : {commands : List CheckCommand} {mid last : Dialogue P} (command : CheckCommand)
-      → AreAsked tries first commands mid → ¬ IsLeftOut tries.suicide mid.exam.game command
+      → AreAsked tries first commands mid → ¬ IsLeftOut tries.unasked mid.exam.game command
       → IsAsked tries.purpose mid command last
       → AreAsked tries first (commands ++ command ∷ []) last

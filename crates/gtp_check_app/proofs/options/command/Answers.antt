@@ -6,8 +6,8 @@ use Rattle.gtp_check_app.proofs.options.command.Goals as goal
 pub returns : goal.returns
 returns c =
     let are : AreOptions c.as_slice.result.now = rw c.as_slice.ensures (record {
-      names = record { rules = _; suicides = _; only = _; skip = _ };
-      are_kept = record { rules = refl; suicides = refl; only = refl; skip = refl };
+      names = record { rules = _; suicides = _; scores = _; only = _; skip = _ };
+      are_kept = record { rules = refl; suicides = refl; scores = refl; only = refl; skip = refl };
       are = refl;
     }) in
     IfOk-weaker c.with_options.result _ _

@@ -56,7 +56,7 @@ returns-then-owes_nothing-clause-all g c = λ none.
     record {
       first = returns-then-owes_nothing-clause-first g c none;
       next = rw next
-          (next_may_not c.args.trial.now.suicide c.ask_some.new.examiner.exam c.ask_some.new.engine.talk.items
+          (next_may_not c.args.trial.now.unasked c.ask_some.new.examiner.exam c.ask_some.new.engine.talk.items
           c.ask_some.new.engine.waiting.items _ sent c.in_ok-asked.ensures.most);
       up = (asked_exam (trial_of c.args.trial.now) from now asks).up ∙ c.loop-asked.invariant.up;
       sent = sent;

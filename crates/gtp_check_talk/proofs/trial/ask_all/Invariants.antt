@@ -8,7 +8,7 @@ use Rattle.gtp_check_talk.proofs.trial.ask_all.Given as goal
 -- nothing was wrong so far
 abbrev pub invariant-loop-asked : goal.invariant-loop-asked
 invariant-loop-asked g l = record {
-  spares : Spares g.P.Process l.trial.suicide (dialogue l.fn.engine l.fn.examiner.exam l.fn.notes)
+  spares : Spares g.P.Process l.trial.unasked (dialogue l.fn.engine l.fn.examiner.exam l.fn.notes)
       (dialogue l.engine l.examiner.exam l.notes);
   check : l.examiner ≡ with_exam l.fn.examiner l.examiner.exam;
   up : l.examiner.exam.up ≡ true;

@@ -2,7 +2,7 @@ use Rattle.std.proofs.Common.{◌∙◌, ◌++◌, ℕ, List, [], ◌∷◌, ap,
 use Rattle.gtp_check_course.specs.declared.lessons.Lesson.{Lesson}
 use Rattle.gtp_check_texts.specs.Summary.{counts_line, hidden_lines, lack_lines, lessons_line, unplayed_lines}
 use Rattle.gtp_check_texts.specs.Summary.{missed_lines}
-use Rattle.gtp_check_texts.specs.Summary.{refused_line, suicides_line, undos_line}
+use Rattle.gtp_check_texts.specs.Summary.{refused_line, unjudged_line, undos_line}
 use Rattle.gtp_check_texts.proofs.Joining.{one_more}
 use Rattle.gtp_check_texts.proofs.summary.last_lines.Goals as goal
 
@@ -16,7 +16,7 @@ returns c =
     let lacks = lack_lines notes in
     let undos = undos_line notes.most_undos in
     let refused = refused_line notes.refused.items in
-    let suicides = suicides_line ending.suicides in
+    let unjudged = unjudged_line ending.unjudged in
     let counts = counts_line notes.commands ending.starts ending.complaints in
     let one = one_more [] _ _ hidden [] c.new-text.ensures.items c.in_ok-add_hidden.ensures in
     let two = one_more [] _ _ left_out (hidden ∷ []) one
@@ -37,7 +37,7 @@ returns c =
     let five = one_more [] _ _ refused (hidden ∷ left_out ∷ missed ∷ unplayed ∷ lacks ∷ undos ∷ []) back
     (c.in_ok-add_refused.ensures ∙ ap (λ (sizes : List ℕ). c.add_most_undos.new.text.items ++ refused_line sizes)
     c.deref-4.ensures.0) in
-    let six = one_more [] _ _ suicides (hidden ∷ left_out ∷ missed ∷ unplayed ∷ lacks ∷ undos ∷ refused ∷ []) five
-    c.in_ok-add_suicides.ensures in
-    one_more [] _ _ counts (hidden ∷ left_out ∷ missed ∷ unplayed ∷ lacks ∷ undos ∷ refused ∷ suicides ∷ []) six
+    let six = one_more [] _ _ unjudged (hidden ∷ left_out ∷ missed ∷ unplayed ∷ lacks ∷ undos ∷ refused ∷ []) five
+    c.in_ok-add_unjudged.ensures in
+    one_more [] _ _ counts (hidden ∷ left_out ∷ missed ∷ unplayed ∷ lacks ∷ undos ∷ refused ∷ unjudged ∷ []) six
     c.in_ok-add_counts.ensures

@@ -5,7 +5,7 @@ use crate::asserts::{assert_equal, assert_equal_for, assert_true, some, text_of}
 use crate::tests::commands::command;
 use byte_streams::CallFault;
 use go_board::KoRule;
-use gtp_check_course::{Lesson, Suicide};
+use gtp_check_course::{Lesson, Unasked};
 use gtp_check_judge::{CheckCommand, Examiner, Kind};
 use gtp_check_talk::engine::Room;
 use gtp_check_talk::notes::Notes;
@@ -93,7 +93,7 @@ fn trial_of<R: Abort + AllocGlobal>(
     rt: &R,
     texts: &'static [&'static [u8]],
     commands: &[CheckCommand],
-    suicide: Suicide,
+    unasked: Unasked,
 ) -> (u32, Option<Tried>) {
     let purpose = Purpose {
         lesson: Lesson::Komi,
@@ -107,7 +107,7 @@ fn trial_of<R: Abort + AllocGlobal>(
         words: &["engine"],
         commands,
         purpose,
-        suicide,
+        unasked,
     };
     let tried = try_commands(
         &trial,
@@ -163,7 +163,7 @@ const SHOWN: &str = "# 1 komi: \"2 clear_board\": it was refused
 fn what_was_never_sent_is_not_shown(rt: HostRuntime) -> Result<(), Fail> {
     let commands = commands_of(&rt, &["boardsize 5", "clear_board", "name", "version"]);
     for refusal in &REFUSALS {
-        let (count, tried) = trial_of(&rt, refusal.texts, commands.as_slice(), Suicide::Forbidden);
+        let (count, tried) = trial_of(&rt, refusal.texts, commands.as_slice(), Unasked::default());
         assert_equal(&rt, count, 4);
         let tried = some(&rt, tried);
         assert_equal_for(&rt, refusal.after, tried.fault, Fault::Wrote(Kind::Refused));
@@ -213,28 +213,57 @@ fn a_trial_asks_all_of_an_engine_that_answers_before_it_is_asked(rt: HostRuntime
         let known = command(&rt, "known_command fixed_handicap");
         assert_true(&rt, commands.push(known).is_ok());
     }
-    let (count, tried) = trial_of(&rt, &ANSWERS, commands.as_slice(), Suicide::Forbidden);
+    let (count, tried) = trial_of(&rt, &ANSWERS, commands.as_slice(), Unasked::default());
     assert_true(&rt, tried.is_none());
     assert_equal(&rt, count, 36);
 }
 
-/// The answers to a board of White's two stones round A1, and the refusal of what comes next.
-static SHUT_IN: [&[u8]; 1] = [b"=1\n\n=2\n\n=3\n\n=4\n\n?5 suicide\n\n=6\n\n"];
+/// The answers to what is legal, and the refusal of what comes next.
+static FIFTH_IS_REFUSED: [&[u8]; 1] = [b"=1\n\n=2\n\n=3\n\n=4\n\n?5 no\n\n=6\n\n"];
+
+static EIGHTH_IS_REFUSED: [&[u8]; 1] = [
+    b"=1\n\n=2\n\n=3\n\n=4\n\n=5\n\n=6\n\n=7\n\n?8 no\n\n=9\n\n",
+];
+
+/// White's two stones round A1, and Black's suicide there.
+const SHUT_IN: [&str; 6] = [
+    "boardsize 5",
+    "clear_board",
+    "play w A2",
+    "play w B1",
+    "play b A1",
+    "name",
+];
+
+/// Black takes A1, and White would take B1 again.
+const TAKEN_AGAIN: [&str; 9] = [
+    "boardsize 5",
+    "clear_board",
+    "play b A2",
+    "play w A1",
+    "play w B2",
+    "play w C1",
+    "play b B1",
+    "play w A1",
+    "name",
+];
 
 #[test]
-fn a_trial_is_over_before_a_suicide_that_is_not_asked(rt: HostRuntime) {
-    let texts = [
-        "boardsize 5",
-        "clear_board",
-        "play w A2",
-        "play w B1",
-        "play b A1",
-        "name",
-    ];
-    let commands = commands_of(&rt, &texts);
-    for (suicide, wanted) in [(Suicide::Unasked, 4), (Suicide::Forbidden, 6)] {
-        let (count, tried) = trial_of(&rt, &SHUT_IN, commands.as_slice(), suicide);
+fn a_trial_is_over_before_what_is_not_asked(rt: HostRuntime) {
+    let all = Unasked::default();
+    let suicide = Unasked {
+        suicide: true,
+        ..all
+    };
+    let ko = Unasked { ko: true, ..all };
+    let shut_in = commands_of(&rt, &SHUT_IN);
+    let taken_again = commands_of(&rt, &TAKEN_AGAIN);
+    for (unasked, few, many) in [(all, 6, 9), (suicide, 4, 9), (ko, 6, 7)] {
+        let (count, tried) = trial_of(&rt, &FIFTH_IS_REFUSED, shut_in.as_slice(), unasked);
         assert_true(&rt, tried.is_none());
-        assert_equal(&rt, count, wanted);
+        assert_equal(&rt, count, few);
+        let (count, tried) = trial_of(&rt, &EIGHTH_IS_REFUSED, taken_again.as_slice(), unasked);
+        assert_true(&rt, tried.is_none());
+        assert_equal(&rt, count, many);
     }
 }

@@ -28,10 +28,10 @@ fn three_of_a_kind_are_shown_and_starts_without_a_right_answer_are_counted(rt: H
     assert_equal(&rt, tally.may_start(), true);
     tally.start();
     assert_equal(&rt, tally.starts_left, 0);
-    tally.count_suicide();
+    tally.count_unjudged();
     tally.start();
     assert_equal(&rt, tally.may_start(), true);
-    assert_equal(&rt, (tally.suicides, tally.complaints), (1, 7));
+    assert_equal(&rt, (tally.unjudged, tally.complaints), (1, 7));
     let mut notes = Notes::new();
     notes.start();
     notes.start();

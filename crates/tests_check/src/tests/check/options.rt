@@ -6,7 +6,7 @@ use go_board::KoRule;
 use gtp_check_app::failure::Mistake;
 use gtp_check_app::options::read_options;
 use gtp_check_app::plan::plan_of;
-use gtp_check_course::{Lesson, Suicide};
+use gtp_check_course::{Lesson, Unasked};
 use std::test::Fail;
 
 #[test]
@@ -16,7 +16,7 @@ fn options_have_defaults_and_lessons_are_chosen_in_their_order(
     let words = ["gtp_check", " an  engine "];
     let options = read_options(rt.alloc(), words.as_slice())?;
     assert_equal(&rt, options.rule, KoRule::Simple);
-    assert_equal(&rt, options.suicide, Suicide::Forbidden);
+    assert_equal(&rt, options.unasked, Unasked::default());
     assert_equal(
         &rt,
         (options.size, options.seed, options.restarts, options.trials),
@@ -49,10 +49,49 @@ fn options_have_defaults_and_lessons_are_chosen_in_their_order(
     let options = read_options(rt.alloc(), words.as_slice())?;
     assert_equal(&rt, options.rule, KoRule::Positional);
     let plan = plan_of(rt.alloc(), &options, false)?;
-    assert_equal(&rt, plan.suicide, Suicide::Unasked);
+    let unasked = Unasked {
+        suicide: true,
+        ..Unasked::default()
+    };
+    assert_equal(&rt, plan.unasked, unasked);
     assert_equal(&rt, plan.lessons.as_slice(), [Lesson::Ko].as_slice());
     assert_equal(&rt, plan.left_out.len(), 14);
     assert_equal(&rt, plan.scene_size, Size::new(9));
+    Ok(())
+}
+
+/// What the options of ko and of scores say: the game's ko rule, and whether ko and scores are left out.
+static RULES: [([&str; 2], (KoRule, bool, bool)); 4] = [
+    (
+        ["--ko=simple", "--score=asked"],
+        (KoRule::Simple, false, false),
+    ),
+    (
+        ["--ko=positional", "--score=unasked"],
+        (KoRule::Positional, false, true),
+    ),
+    (
+        ["--ko=unasked", "--score=asked"],
+        (KoRule::Positional, true, false),
+    ),
+    (
+        ["--ko=unasked", "--score=unasked"],
+        (KoRule::Positional, true, true),
+    ),
+];
+
+#[test]
+fn ko_and_scores_may_be_left_out(rt: HostRuntime) -> Result<(), Fail> {
+    for ([ko, score], (rule, leaves_ko, leaves_scores)) in &RULES {
+        let words = ["gtp_check", "engine", ko, score];
+        let options = read_options(rt.alloc(), words.as_slice())?;
+        let unasked = Unasked {
+            suicide: false,
+            ko: *leaves_ko,
+            score: *leaves_scores,
+        };
+        assert_equal(&rt, (options.rule, options.unasked), (*rule, unasked));
+    }
     Ok(())
 }
 
@@ -87,7 +126,7 @@ fn a_plan_has_a_command_and_a_lesson(rt: HostRuntime) -> Result<(), Fail> {
 }
 
 /// Arguments in which one option is out of its range, or has an unknown name.
-static BEYOND: [[&str; 4]; 8] = [
+static BEYOND: [[&str; 4]; 9] = [
     ["gtp_check", "engine", "--size", "4"],
     ["gtp_check", "engine", "--size", "26"],
     ["gtp_check", "engine", "--restarts", "1001"],
@@ -96,6 +135,7 @@ static BEYOND: [[&str; 4]; 8] = [
     ["gtp_check", "engine", "--start-timeout", "86401"],
     ["gtp_check", "engine", "--only", "nothing"],
     ["gtp_check", "engine", "--suicide", "allowed"],
+    ["gtp_check", "engine", "--score", "forbidden"],
 ];
 
 #[test]

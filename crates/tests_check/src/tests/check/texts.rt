@@ -54,7 +54,7 @@ fn a_check_has_a_first_line_and_last_lines_and_a_lesson_has_a_line(
         hidden: &[0, 0, 0, 0, 4],
         starts: 2,
         complaints: 0,
-        suicides: 1,
+        unjudged: 1,
     };
     let last = last_lines(rt.alloc(), &plan, &notes, &ending)?;
     let expected = "check: ko: more complaints, of kinds that were shown three times: 4
@@ -65,7 +65,7 @@ check: genmoves: no play and no genmove was answered rightly on any board of it
 check: it lacks undo; nothing was asked that needs it
 check: it first refused an undo after 400 undos in a row
 check: it refuses the sizes 1 25
-check: 1 suicide by genmove, not judged, as the options say
+check: 1 move by genmove, not judged, as the options say
 check: 15 commands, 2 starts, 0 complaints
 ";
     assert_equal(&rt, str::from_utf8(last.as_slice())?, expected);

@@ -2,7 +2,7 @@
 use crate::asserts::{assert_equal, assert_equal_for, assert_true, assert_true_for};
 use arrayvec::ArrayVec;
 use go_board::KoRule;
-use gtp_check_course::{Action, Course, LESSONS, Lesson, Lessons, Suicide};
+use gtp_check_course::{Action, Course, LESSONS, Lesson, Lessons, Unasked};
 use gtp_check_judge::{CheckCommand, Examiner, Known};
 use gtp_session::first::First;
 use gtp_session::session::Session;
@@ -163,7 +163,7 @@ fn nothing_is_found_of_our_engine_with_all_sizes_or_one_or_without_undo(rt: Host
             let _ = lessons.try_push(lesson);
         }
         let mut talk = Talk::new(*only_size, *has_undo);
-        talk.hold(&rt, &mut Course::new(lessons, None, 1, Suicide::Forbidden));
+        talk.hold(&rt, &mut Course::new(lessons, None, 1, Unasked::default()));
         let case = (*only_size, *has_undo);
         assert_true_for(&rt, (case, talk.asked), talk.asked >= *asked);
         assert_equal_for(&rt, case, talk.starts, starts.unwrap_or(talk.starts));
@@ -192,7 +192,7 @@ fn a_part_is_left_after_a_finding_and_a_lesson_after_ten_or_three_losses(rt: Hos
         let mut lessons = Lessons::new();
         let _ = lessons.try_push(Lesson::Handicaps);
         let _ = lessons.try_push(Lesson::Komi);
-        let mut course = Course::new(lessons, None, 1, Suicide::Forbidden);
+        let mut course = Course::new(lessons, None, 1, Unasked::default());
         for (part, is_loss) in findings.iter().enumerate() {
             assert_equal_for(&rt, *findings, course.lesson(), Some(Lesson::Handicaps));
             assert_equal_for(&rt, *findings, course.place().part as usize, part);

@@ -8,5 +8,5 @@ returns g c = record {
   hidden = c.as_slice.ensures;
   starts = c.starts.ensures.starts;
   complaints = refl;
-  suicides = refl;
+  unjudged = refl;
 }

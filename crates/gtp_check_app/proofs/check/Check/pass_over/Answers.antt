@@ -9,5 +9,5 @@ returns-clause-passes g c = record {
   ended = c.end.ensures.ended;
   course = c.leave_part.new.course;
   left = rw c.owed_purpose-purpose.ensures at c.leave_part.ensures;
-  leads = rw (c.lost.ensures, c.take.ensures.after, c.count_suicide.ensures) refl;
+  leads = rw (c.lost.ensures, c.take.ensures.after, c.count_unjudged.ensures) refl;
 }
