@@ -171,6 +171,7 @@ LESSONS: List[Option] = [
     ["--only", "genmoves"],
     ["--only", "restarts"],
     ["--skip", "record"],
+    ["--only", "ko", "--stop-at-first"],
 ]
 
 
@@ -179,7 +180,7 @@ def checks(seed: int, count: int) -> Iterator[Trial]:
     for number in range(1, count + 1):
         r = random.Random(f"{seed} {number}")
         words = [*LESSONS[number % len(LESSONS)], "--seed", str(r.randint(0, 2**32 - 1))]
-        words.append(own_engine(r))
+        engine = own_engine(r)
         if r.random() < 0.5:
             words += ["--ko", r.choice(["simple", "positional"])]
-        yield Trial("gtp_check", words)
+        yield Trial("gtp_check", [*words, engine])

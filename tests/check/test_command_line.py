@@ -1,6 +1,7 @@
 """The command line of gtp_check: usage errors, after which nothing is started, and the help."""
 from __future__ import annotations
 
+import re
 from pathlib import Path
 
 import pytest
@@ -9,7 +10,7 @@ from tests.shared.processes import run
 from tests.shared.usage import check_help, check_unread, check_usage_error
 
 ENGINE = "touch started"  # leaves a file where it is started
-PUT_IT_IN_QUOTES = "An engine's command is one argument: put it in quotes\n"
+PUT_IT_IN_QUOTES = "An engine's command is one argument, in quotes: gtp_check 'gnugo --mode gtp'\n"
 
 
 @pytest.mark.parametrize(
@@ -51,13 +52,77 @@ PUT_IT_IN_QUOTES = "An engine's command is one argument: put it in quotes\n"
         pytest.param(["--restarts", "-1", ENGINE], ["-1", "--help"], id="restarts below zero"),
         pytest.param(["--quick", "--quick", ENGINE], ["--quick", "--help"], id="an option twice"),
         pytest.param(
-            ["--black", ENGINE], ["--black", "--help"], id="an option of the match program"
+            ["--black", ENGINE],
+            ["--black", "--help", PUT_IT_IN_QUOTES],
+            id="an option of the match program",
         ),
     ],
 )
 def test_usage_error(words: list[str], named: list[str], gtp_check: Path, tmp_path: Path) -> None:
     check_usage_error(run([gtp_check, *words], cwd=tmp_path), *named)
     assert not (tmp_path / "started").exists()
+
+
+VALUES = {"--ko": "simple", "--suicide": "unasked", "--only": "ko", "--skip": "ko"}
+STAND_BEFORE = "gtp_check: options stand before the engine's command: gtp_check"
+
+
+@pytest.mark.parametrize(
+    "words, right",
+    [
+        pytest.param(
+            ["touch", "--ko", "positional"],
+            "--ko positional 'touch'",
+            id="an option after the engine",
+        ),
+        pytest.param(
+            ["--ko", "simple", "--quick", ENGINE, "--seed=2", "--singly"],
+            "--ko simple --quick --seed=2 --singly 'touch started'",
+            id="options before and after",
+        ),
+        pytest.param(["touch", "--list"], "--list 'touch'", id="a flag after the engine"),
+        pytest.param(
+            ["simple", "--ko", "simple"],
+            "--ko simple 'simple'",
+            id="an engine named like a value",
+        ),
+    ],
+)
+def test_option_after_the_command(
+    words: list[str], right: str, gtp_check: Path, tmp_path: Path
+) -> None:
+    done = run([gtp_check, *words], cwd=tmp_path)
+    assert (done.returncode, done.stdout, done.stderr) == (2, "", f"{STAND_BEFORE} {right}\n")
+    assert list(tmp_path.iterdir()) == []
+
+
+def options_with_values(gtp_check: Path) -> list[str]:
+    """Returns the options of the help that take a value."""
+    return re.findall(r"^ +(?:-., )?(--[a-z-]+) <", run([gtp_check, "--help"]).stdout, re.M)
+
+
+def test_value_is_no_command(gtp_check: Path, tmp_path: Path) -> None:
+    """Each option with a value is taken with it, before the command and after it."""
+    options = options_with_values(gtp_check)
+    assert "--only" in options
+    for option in options:
+        value = VALUES.get(option, "9")
+        done = run([gtp_check, option, value, "./engine"], cwd=tmp_path)
+        assert "not started: no such file" in done.stderr
+        done = run([gtp_check, "./engine", option, value], cwd=tmp_path)
+        assert done.stderr == f"{STAND_BEFORE} {option} {value} './engine'\n"
+
+
+@pytest.mark.parametrize("word", ["--help", "--version"])
+def test_help_after_the_command(word: str, gtp_check: Path) -> None:
+    check_help(run([gtp_check, ENGINE, word]), "gtp_check")
+
+
+@pytest.mark.parametrize("word", ["simple", "--seed=1", "--"])
+def test_command_after_the_options(word: str, gtp_check: Path, tmp_path: Path) -> None:
+    before = ["--ko", word] if word == "simple" else [word]
+    done = run([gtp_check, *before, "simple"], cwd=tmp_path)
+    assert done.stderr == 'gtp_check: not started: no such file: "simple"\n'
 
 
 @pytest.mark.parametrize(

@@ -30,6 +30,30 @@ def only_complaint(checker: Checker, engine: str, *options: str) -> Complaint:
     return complaint
 
 
+# ---- which complaints are shown
+
+POSITIONAL = "gtp_engine --ko positional"  # under simple ko it refuses legal moves in both lessons
+
+
+def test_three_alike_over_all_lessons(checker: Checker) -> None:
+    options = ["--trials", "0", *only("ko", "record")]
+    check = checker.check(POSITIONAL, *options)
+    assert [found.lesson for found in check.report.complaints] == ["ko", "ko", "ko"]
+    assert {found.fault for found in check.report.complaints} == {"it was refused"}
+    counted = [note for note in check.report.notes if note.startswith("record: more complaints")]
+    assert len(counted) == 1
+    alone = checker.check(POSITIONAL, "--trials", "0", *only("record"))
+    assert {found.lesson for found in alone.report.complaints} == {"record"}
+
+
+def test_stop_at_first(checker: Checker) -> None:
+    options = ["--trials", "0", *only("ko", "record")]
+    check = checker.check(POSITIONAL, "--stop-at-first", "--restarts", "9", *options)
+    assert (check.status, check.report.starts, check.report.total) == (1, 1, 1)
+    assert checker.check(POSITIONAL, *options).report.total > 1
+    assert checker.check("gtp_engine", "--stop-at-first", *options).status == 0
+
+
 # ---- a mistake that no shorter conversation shows
 
 

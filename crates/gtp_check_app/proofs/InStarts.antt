@@ -1,5 +1,5 @@
 -- The starts that a check asked for: one that was among them stays so as more are asked for.
-use Rattle.std.proofs.Common.{◌≡◌, ◌∙◌, refl, sym, ap, append_assoc, List, [], ◌∷◌, ◌++◌, Option, None, Some, Ok}
+use Rattle.std.proofs.Common.{◌≡◌, ◌∙◌, sym, ap, append_assoc, List, [], ◌∷◌, ◌++◌, None, Some, Ok}
 use Rattle.std.proofs.lemmas.List.{append-nil}
 use Rattle.std.specs.Prelude.{⊤, Result}
 use Rattle.go_board.specs.declared.rules.KoRule.{KoRule}
@@ -8,7 +8,7 @@ use Rattle.gtp_process.specs.declared.starter.StartFault.{StartFault}
 use Rattle.gtp_process.specs.Starts.{Attempt, Attempts, Text, Tries, program_line}
 use Rattle.gtp_check_talk.specs.Dialogues.{AsksForMore, Wrong}
 use Rattle.gtp_check_course.specs.declared.plan.Plan.{Plan}
-use Rattle.gtp_check_app.specs.RunLaws.{IsAmong, IsGrounded, IsStartedBy, starts_of}
+use Rattle.gtp_check_app.specs.RunLaws.{IsGrounded, IsStartedBy, starts_of}
 
 -- one list of attempts begins with another
 pub record Continues {P : Type 0} (before after : List (Attempt P)) : Type 0 where

@@ -24,7 +24,7 @@ use Rattle.gtp_check_app.specs.RunLaws.{IsOverAt}
 use Rattle.gtp_check_app.specs.RunLaws.{StatusesSay, complaints_in, fault_in}
 use Rattle.gtp_check_app.specs.Sequence.{Beginning, Known, Point, Turns, TurnsAreOver, beginning, first_point}
 use Rattle.gtp_check_app.specs.Status.{not_earned, something_found}
-use Rattle.gtp_check_app.specs.Tally.{alike, is_last, is_shown, most_shown_alike, started_again, without_start}
+use Rattle.gtp_check_app.specs.Tally.{alike, is_shown, most_shown_alike, started_again, without_start}
 use Rattle.gtp_check_app.specs.Unjudged.{is_blamed}
 use Rattle.gtp_check_app.specs.Turns.{Complains, IsOver, Moment, State, Turn, WritesFirst, found_in, moment}
 use Rattle.gtp_check_app.proofs.Answered.{over_answered, over_noted}
@@ -53,13 +53,8 @@ started_faults tally = by tally.is_after_fault
     by false = refl
 
 -- the first fault of all is shown
-first_is_shown : (tally : Tally) (lesson : Lesson) (fault : Fault) → tally.faults.items ≡ []
-    → is_shown tally lesson fault ≡ true
-first_is_shown tally lesson fault none = by (is_last tally.lesson lesson)
-  where
-    by : (b : Bool) → nat_lt (alike (if b then tally.faults.items else []) fault) most_shown_alike ≡ true
-    by true = ap (λ (known : List Fault). nat_lt (alike known fault) most_shown_alike) none
-    by false = refl
+first_is_shown : (tally : Tally) (fault : Fault) → tally.faults.items ≡ [] → is_shown tally fault ≡ true
+first_is_shown tally fault none = ap (λ (known : List Fault). nat_lt (alike known fault) most_shown_alike) none
 
 module _ {P : Type 0} (known : Ghosts P) (laws : Laws known) (plan : Plan) where
   first_tally : (before : State P) (is_wrong : Bool) {after : State P} {line : List (List ℕ)}
@@ -93,7 +88,7 @@ module _ {P : Type 0} (known : Ghosts P) (laws : Laws known) (plan : Plan) where
   complained_writes before (Complains.hidden {fault = fault} {mid = mid} wrong judged closes not_shown) nought none
       some =
       let at_mid = ap (λ (s : State P). s.tally.faults.items) closes.leads ∙ none in
-      let is = first_is_shown mid.tally (wrong_purpose wrong).lesson fault at_mid in
+      let is = first_is_shown mid.tally fault at_mid in
       absurd (let never : true ≡ false = sym is ∙ not_shown in cc never)
   complained_writes before (Complains.shown wrong complaint judged closes shows shortened about) nought none some =
       omega arith

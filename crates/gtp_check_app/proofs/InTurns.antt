@@ -20,7 +20,7 @@ use Rattle.gtp_check_course.specs.declared.plan.Plan.{Plan}
 use Rattle.gtp_check_course.specs.declared.lessons.Lesson.{Lesson}
 use Rattle.gtp_check_talk.specs.Dialogues.{wrong_purpose}
 use Rattle.gtp_check_app.specs.declared.tally.Tally.{Tally}
-use Rattle.gtp_check_app.specs.Tally.{found, in_lesson, is_shown, started_again, with_hidden, with_known, without_start}
+use Rattle.gtp_check_app.specs.Tally.{found, is_shown, started_again, with_hidden, with_known, with_one, without_start}
 use Rattle.gtp_check_app.specs.RunLaws.{IsGrounded, IsHeldWith, IsJustComplaint, came_in, complaints_in, fault_in}
 use Rattle.gtp_check_app.specs.RunLaws.{starts_of}
 use Rattle.gtp_check_app.specs.Unjudged.{is_blamed}
@@ -337,10 +337,10 @@ module _ {P : Type 0} (known : Ghosts P) (laws : Laws known) (plan : Plan) where
       ap (λ (s : State P). s.tally) asked.leads ∙ asked_tally first more
 
   pub some_found : (tally : Tally) (lesson : Lesson) (fault : Fault) → (found tally lesson fault).complaints ≡ 0 → ⊥
-  some_found tally lesson fault = by (is_shown tally lesson fault)
+  some_found tally lesson fault = by (is_shown tally fault)
     where
-      by : (b : Bool) → (if b then with_known (in_lesson tally lesson) fault
-          else with_hidden (with_known (in_lesson tally lesson) fault) lesson).complaints ≡ 0 → ⊥
+      by : (b : Bool) → (if b then with_known (with_one tally) fault
+          else with_hidden (with_one tally) lesson).complaints ≡ 0 → ⊥
       by true is = absurd (omega (arith, is))
       by false is = absurd (omega (arith, is))
 

@@ -1,5 +1,6 @@
 mod Answered
 mod CommandLine
+mod CommandPlace
 mod CommandWords
 mod Gathering
 mod InStarts

@@ -5,6 +5,7 @@ use Rattle.std.specs.declared.alloc.AllocError.{AllocError}
 use Rattle.clap.specs.Words.{Text}
 use Rattle.clap.specs.declared.error.kind.ErrorKind.{ErrorKind}
 use Rattle.clap.specs.declared.error.kind.ErrorKind.TheVariants.{OutOfMemory as ClapOutOfMemory}
+use Rattle.byte_streams.specs.declared.calls.WriteOnce.{Ghosts as WriterGhosts}
 use Rattle.gtp_process.specs.Starts.{Attempts}
 use Rattle.cli.specs.Failures.{IsReported, plan_error_status, plan_error_text}
 use Rattle.cli.specs.Requests.{Answers, IsRefused, Outputs, Shows, Writers, writers}
@@ -15,6 +16,7 @@ use Rattle.gtp_check_app.specs.declared.failure.Mistake.{Mistake}
 use Rattle.gtp_check_app.specs.declared.options.Options.{Options}
 use Rattle.gtp_check_app.specs.declared.streams.Streams.{Streams}
 use Rattle.gtp_check_app.specs.Checks.{AsksForList, HasRun, IsHeld, IsHinted, missed_from, outputs_of}
+use Rattle.gtp_check_app.specs.Misplaced.{Reports, has_words_after}
 use Rattle.gtp_check_app.specs.Options.{AsksFor, HasFault}
 use Rattle.gtp_check_app.specs.Plans.{HasNoPlan}
 use Rattle.gtp_check_app.specs.Sequence.{Beginning, Known}
@@ -40,7 +42,7 @@ module _ {P O E : Type 0} (known : Known P O E) (words : List Text) (shows_progr
       (record { output = between.output; errors = reported })
   clap_said kind text fault status between reported (Answers.refused (IsRefused.mistake none not_refused is wrote))
       hinted no_hint =
-      HasRun.mistaken (inl (record {
+      HasRun.mistaken (inr (inl (record {
         kind = kind;
         mistake = none;
         has = elim fault [ inl refused ↦ absurd (not_refused refused) | inr has ↦ has ];
@@ -48,7 +50,7 @@ module _ {P O E : Type 0} (known : Known P O E) (words : List Text) (shows_progr
         between = _;
         written = wrote;
         hinted = hinted refl;
-      }))
+      })))
   clap_said kind text fault status between reported (Answers.refused (IsRefused.no_memory why reports))
       hinted no_hint =
       rw (no_hint (λ is. absurd (omega (arith, is)))) (HasRun.no_memory reports)
@@ -88,16 +90,29 @@ module _ {P O E : Type 0} (known : Known P O E) (words : List Text) (shows_progr
       → HasRun known words shows_progress asked streams status asked (record streams { errors = reported })
   no_plan_ran options asks (BadWords what) none status reported is reports =
       rw is
-      (HasRun.mistaken (inr (record {
+      (HasRun.mistaken (inr (inr (record {
         options = options;
         asked = asks;
         what = what;
         mistake = none;
         reported = reports;
-      })))
+      }))))
   no_plan_ran options asks OutOfMemory none status reported is reports = rw is (HasRun.no_memory reports)
 
+  -- where options follow on the engine's command
+  pub misplaced_ran : (options : Options) → AsksFor words options → has_words_after words ≡ true
+      → (status : ℕ) (reported : E) → Reports known.errs words streams.errors status reported
+      → HasRun known words shows_progress asked streams status asked (record streams { errors = reported })
+  misplaced_ran options asks follow status reported (Reports.reported written) =
+      HasRun.mistaken (inl (record { options = options; asked = asks; follow = follow; written = written }))
+  misplaced_ran options asks follow status reported (Reports.refused reports) = HasRun.no_memory reports
+
 -- ---- each status is one of the five
+
+pub misplaced_status : {E : Type 0} {errs : WriterGhosts E} {words : List Text} {before : E} (status : ℕ) (after : E)
+    → Reports errs words before status after → IsStatus status
+misplaced_status status after (Reports.reported written) = inr (inr (inl refl))
+misplaced_status status after (Reports.refused reports) = inr (inr (inr (inl refl)))
 
 shown_status : {O E : Type 0} {known : Writers O E} {name text : List ℕ} {before : Outputs O E} (status : ℕ)
     (after : Outputs O E) → Shows known name text before status after → IsStatus status

@@ -61,7 +61,7 @@ module _ {P O E : Type 0} (known : Known P O E) (plan : Plan) (before : Moment P
       ap (λ (t : Tally). record mid { tally = t })
       (now ∙ ap (λ (p : Purpose). found mid.tally p.lesson fault) same)
 
-  pub is_hidden : (answer : Bool) → answer ≡ is_shown mid.tally purpose.lesson fault → answer ≡ false
+  pub is_hidden : (answer : Bool) → answer ≡ is_shown mid.tally fault → answer ≡ false
       → (streams : Streams O E)
       → ComplaintIsFlushed known plan (record { now = before; streams = streams }) fault
       (point (record mid { tally = tally }) before.asked streams)
@@ -73,13 +73,12 @@ module _ {P O E : Type 0} (known : Known P O E) (plan : Plan) (before : Moment P
       (sym found_now)
       (record {
         said = [];
-        complains = hidden wrong (not-true _ judged) closes
-            (sym (ap (λ (p : Purpose). is_shown mid.tally p.lesson fault) same) ∙ sym is ∙ so);
+        complains = hidden wrong (not-true _ judged) closes (sym is ∙ so);
         flushed = no_line;
         shown = none_shown known.errs plan.shows_progress streams.errors;
       })
 
-  pub complained : (answer : Bool) → answer ≡ is_shown mid.tally purpose.lesson fault → answer ≡ true
+  pub complained : (answer : Bool) → answer ≡ is_shown mid.tally fault → answer ≡ true
       → {shorter : Option Wrong} {after : Moment P}
       → IsShortened known.processes plan wrong (moment (record mid { tally = tally }) before.asked) shorter after
       → (complaint : Complaint)
@@ -88,8 +87,7 @@ module _ {P O E : Type 0} (known : Known P O E) (plan : Plan) (before : Moment P
       (unwrap_or shorter wrong) complaint
       → Complains known.processes plan before (Some fault) after (complaint_lines complaint ∷ [])
   complained answer is so {shorter = shorter} {after = after} shortens complaint about =
-      shown wrong complaint (not-true _ judged) closes
-      (sym (ap (λ (p : Purpose). is_shown mid.tally p.lesson fault) same) ∙ sym is ∙ so)
+      shown wrong complaint (not-true _ judged) closes (sym is ∙ so)
       (subst
       (λ (start : State P). IsShortened known.processes plan wrong (moment start before.asked) shorter after)
       found_now shortens)

@@ -27,6 +27,7 @@ use Rattle.gtp_check_texts.specs.declared.summary.Over.{Over}
 use Rattle.gtp_check_texts.specs.declared.summary.Over.TheVariants as over
 use Rattle.gtp_check_app.specs.declared.streams.Streams.{Streams}
 use Rattle.gtp_check_texts.specs.Listing.{list_lines}
+use Rattle.gtp_check_app.specs.Misplaced.{has_words_after, misplaced_line}
 use Rattle.gtp_check_app.specs.Options.{AsksFor, AsksForText, HasFault}
 use Rattle.gtp_check_app.specs.Plans.{HasNoPlan, IsPlanOf}
 use Rattle.gtp_check_app.specs.Progress.{IsShown, cleared}
@@ -159,9 +160,17 @@ pub record IsRefusedByClap {E : Type 0} (errs : WriterGhosts E) (words : List Te
   pub written : WritesOrBreaks errs text before between
   pub hinted : IsHinted errs kind between after
 
+-- options follow on the engine's command, which is reported
+pub record IsMisplaced {E : Type 0} (errs : WriterGhosts E) (words : List Text) (before after : E) : Type 0 where
+  pub options : Options
+  pub asked : AsksFor words options
+  pub follow : has_words_after words ≡ true
+  pub written : WritesOrBreaks errs (misplaced_line words) before after
+
 -- the words have a mistake, or what they ask for has one
 abbrev pub HasMistake : {E : Type 0} → WriterGhosts E → List Text → E → E → Type 0
-HasMistake errs words before after = IsRefusedByClap errs words before after ⊎ AsksWrongly errs words before after
+HasMistake errs words before after =
+    IsMisplaced errs words before after ⊎ IsRefusedByClap errs words before after ⊎ AsksWrongly errs words before after
 
 -- ---- a run
 

@@ -1,5 +1,6 @@
 pub mod Checks
 pub mod Laws
+pub mod Misplaced
 pub mod Mistakes
 pub mod Options
 pub mod Plans

@@ -43,8 +43,8 @@ abbrev pub program : App
 program = with_rule (program_named (codes "gtp_check")) (word_rule (codes "CMD"))
 
 -- `[--size N] [--ko simple|positional|unasked] [--suicide forbidden|unasked] [--score asked|unasked] [--seed N]`, and
--- `[--quick] [--only LESSON].. [--skip LESSON].. [--list] [--singly] [--restarts N] [--trials N] [--timeout SECONDS]`,
--- and `[--start-timeout SECONDS]`
+-- `[--quick] [--only LESSON].. [--skip LESSON].. [--list] [--singly] [--stop-at-first] [--restarts N] [--trials N]`, and
+-- `[--timeout SECONDS] [--start-timeout SECONDS]`
 abbrev pub options : KeptNames → List Rule
 options names =
     maybe_number_rule (codes "size") (pos 5) (pos 25)
@@ -57,6 +57,7 @@ options names =
     ∷ names_rule (codes "skip") names.skip
     ∷ flag_rule (codes "list")
     ∷ flag_rule (codes "singly")
+    ∷ flag_rule (codes "stop-at-first")
     ∷ number_rule (codes "restarts") (pos 0) (pos 1000) (codes "200")
     ∷ number_rule (codes "trials") (pos 0) (pos 1000) (codes "60")
     ∷ maybe_number_rule (codes "timeout") (pos 1) (pos 86400)
@@ -105,6 +106,7 @@ pub record Ask (rows : List Row) (options : Options) : Type 0 where
   pub skip : options.skip.items ≡ lessons_named (option_texts (codes "skip") rows)
   pub list : HasFlag (codes "list") rows options.list
   pub singly : HasFlag (codes "singly") rows options.singly
+  pub stop_at_first : HasFlag (codes "stop-at-first") rows options.stop_at_first
   pub restarts : HasNumber (codes "restarts") rows options.restarts
   pub trials : HasNumber (codes "trials") rows options.trials
   pub timeout : HasNumber (codes "timeout") rows options.timeout

@@ -2,10 +2,9 @@
 use Rattle.std.specs.Prelude.{◌≡◌, ◌≢◌, ℕ, ◌==◌, ◌&&◌, ◌||◌, not, Bool, true, false, List, [], Option, None, Some}
 use Rattle.std.specs.Prelude.{map, filter, length, if◌then◌else◌}
 use Rattle.std.specs.Borrow.{Bor}
-use Rattle.std.specs.List.{list_any}
 use Rattle.clap.specs.Words.{Text}
 use Rattle.go_base.specs.Size.{IsSize}
-use Rattle.gtp_check_course.specs.Lessons.{all_lessons, number_of}
+use Rattle.gtp_check_course.specs.Lessons.{all_lessons}
 use Rattle.gtp_check_course.specs.declared.lessons.Lesson.{Lesson}
 use Rattle.gtp_check_course.specs.declared.lessons.Lesson.TheVariants.{Start, Placed, Errors, Sizes, Ko, Captures, Suicide, Joining}
 use Rattle.gtp_check_course.specs.declared.lessons.Lesson.TheVariants.{Handicaps, Komi, Drawn, Record, Genmoves}
@@ -71,7 +70,7 @@ pub record IsPlanOf (options : Options) (shows_progress : Bool) (plan : Plan) : 
   pub has_lessons : plan.lessons.items ≢ []
   pub left_out : plan.left_out.items ≡ filter (λ lesson. not (is_chosen options lesson)) all_lessons
   pub singly : plan.singly ≡ options.singly
-  pub restarts : plan.restarts ≡ options.restarts
+  pub restarts : plan.restarts ≡ (if options.stop_at_first then 0 else options.restarts)
   pub trials : plan.trials ≡ options.trials
   pub progress : plan.shows_progress ≡ shows_progress
 

@@ -26,7 +26,6 @@ use Rattle.gtp_check_app.specs.Progress.{IsShown}
 use Rattle.gtp_process.specs.Starts.{Text}
 use Rattle.cli.specs.Status.{done}
 use Rattle.gtp_check_texts.specs.declared.summary.Over.{Over}
-use Rattle.gtp_check_texts.specs.declared.summary.Over.TheVariants as over
 use Rattle.gtp_check_app.specs.Checks.{AsksForList, AsksForPlan, HasRun}
 use Rattle.gtp_check_app.specs.Laws.{IsPass}
 use Rattle.gtp_check_app.specs.Options.{AsksForText}

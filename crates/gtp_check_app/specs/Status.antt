@@ -34,7 +34,7 @@ program_name = codes "gtp_check"
 
 -- what follows on a word or an option that there isn't
 abbrev pub hint_line : List ℕ
-hint_line = codes "An engine's command is one argument: put it in quotes\n"
+hint_line = codes "An engine's command is one argument, in quotes: gtp_check 'gnugo --mode gtp'\n"
 
 -- the line of a mistake was written, whole unless the stream broke at it
 abbrev pub ReportsMistake : {E : Type 0} → Ghosts E → Mistake → E → E → Type 0

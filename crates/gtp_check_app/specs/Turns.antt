@@ -369,11 +369,11 @@ module _ {P : Type 0} (known : Ghosts P) (plan : Plan) where
     passed_over : {fault : Fault} {after : State P} → is_unjudged plan.unasked fault ≡ true
         → PassesOver known before.state after → Complains before (Some fault) (moment after before.asked) []
     hidden : {fault : Fault} {mid : State P} (wrong : Wrong) → is_unjudged plan.unasked fault ≡ false
-        → Closes known fault before.state wrong mid → is_shown mid.tally (wrong_purpose wrong).lesson fault ≡ false
+        → Closes known fault before.state wrong mid → is_shown mid.tally fault ≡ false
         → Complains before (Some fault) (moment (found_in mid wrong fault) before.asked) []
     shown : {fault : Fault} {mid : State P} {after : Moment P} {shorter : Option Wrong} (wrong : Wrong)
         (complaint : Complaint) → is_unjudged plan.unasked fault ≡ false
-        → Closes known fault before.state wrong mid → is_shown mid.tally (wrong_purpose wrong).lesson fault ≡ true
+        → Closes known fault before.state wrong mid → is_shown mid.tally fault ≡ true
         → IsShortened wrong (moment (found_in mid wrong fault) before.asked) shorter after
         → IsComplaint plan.rule
         (caption_of after.state.tally.complaints (wrong_purpose wrong).lesson (shown_of plan.trials shorter wrong))

@@ -64,7 +64,7 @@ pub struct Caption {
 
 impl<S: Starter> Check<S> {
     /// Ends the engine, with which something is wrong, and leaves the part of the lesson. Writes the complaint, unless
-    /// the lesson has shown three of its kind.
+    /// three of its kind were shown.
     #[inline(never)]
     pub fn complain<O: WriteOnce, E: WriteOnce>(
         &mut self,

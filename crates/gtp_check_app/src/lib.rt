@@ -12,6 +12,7 @@ mod complaining;
 pub mod failure;
 mod limits;
 pub mod laws;
+mod misplaced;
 pub mod options;
 pub mod plan;
 pub mod progress;

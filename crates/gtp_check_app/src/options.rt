@@ -62,6 +62,8 @@ pub struct Options<'a> {
     pub list: bool,
     /// Whether to wait for each reply before the next command.
     pub singly: bool,
+    /// Whether the first complaint ends the check.
+    pub stop_at_first: bool,
     /// How often the engine may be restarted after complaints, 0 to 1,000.
     pub restarts: u32,
     /// How many shorter conversations may be tried for a complaint, 0 to 1,000.
@@ -73,7 +75,7 @@ pub struct Options<'a> {
 }
 
 /// The options, in the order of the help.
-static OPTIONS: [OptionRow<'static>; 14] = [
+static OPTIONS: [OptionRow<'static>; 15] = [
     OptionRow {
         name: "size",
         takes: Takes::MaybeNumber("N", 5, 25),
@@ -130,6 +132,11 @@ static OPTIONS: [OptionRow<'static>; 14] = [
         help: "Wait for each reply before the next command",
     },
     OptionRow {
+        name: "stop-at-first",
+        takes: Takes::Nothing,
+        help: "End the check after the first complaint",
+    },
+    OptionRow {
         name: "restarts",
         takes: Takes::Number("N", 0, 1000, "200"),
         help: "Restarts after complaints, 0 to 1000",
@@ -183,6 +190,7 @@ fn options_of<'a>(matches: &ArgMatches<'a>) -> Options<'a>
         skip: lessons_at(matches, "skip"),
         list: flag_at(matches, "list"),
         singly: flag_at(matches, "singly"),
+        stop_at_first: flag_at(matches, "stop-at-first"),
         restarts: number_at(matches, "restarts"),
         trials: number_at(matches, "trials"),
         timeout: number_at(matches, "timeout"),
@@ -248,7 +256,7 @@ fn is_named(names: &[&str], lesson: Lesson) -> bool
 }
 
 /// Returns whether a text is among these.
-fn contains(texts: &[&str], wanted: &str) -> bool
+pub(crate) fn contains(texts: &[&str], wanted: &str) -> bool
     ensures { result ≡ list_any (λ text. bytes_eq text.now wanted.now) texts.now }
 {
     texts.iter().any(|text| *text == wanted)

@@ -1,5 +1,5 @@
 //! From the options to the plan of a check.
-ghost use Rattle.std.specs.Prelude.{◌≡◌, IfOk, IfErr, filter, not};
+ghost use Rattle.std.specs.Prelude.{◌≡◌, IfOk, IfErr, filter, if◌then◌else◌, not};
 ghost use Rattle.gtp_check_course.specs.Lessons.{all_lessons};
 ghost use Rattle.gtp_check_talk.specs.Among.{is_among};
 ghost use Rattle.gtp_check_app.specs.Plans.{HasNoPlan, IsCommand, IsPlanOf, IsSceneSize, is_chosen, is_quick};
@@ -42,10 +42,21 @@ pub fn plan_of<'a>(
         lessons,
         left_out: left_out(options),
         singly: options.singly,
-        restarts: options.restarts,
+        restarts: restarts_of(options),
         trials: options.trials,
         shows_progress,
     })
+}
+
+/// How often the engine may be restarted after complaints: never if the first one ends the check.
+fn restarts_of(options: &Options<'_>) -> u32
+    ensures { result ≡ (if options.now.stop_at_first then 0 else options.now.restarts) }
+{
+    if options.stop_at_first {
+        0
+    } else {
+        options.restarts
+    }
 }
 
 /// The board size for scenes, if the number is one.

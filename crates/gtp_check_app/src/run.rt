@@ -14,6 +14,7 @@ ghost use Rattle.gtp_check_app.specs.private.Answering.{IsAnswered, Lists};
 use crate::check::Check;
 use crate::failure::NAME;
 use crate::limits::limits_of;
+use crate::misplaced::{has_words_after, report_misplaced};
 use crate::options::read_options;
 use crate::plan::plan_of;
 use crate::progress::clear;
@@ -61,6 +62,9 @@ pub fn run<A: AsStr, O: WriteOnce, E: WriteOnce, S: LimitedStarter>(
         Ok(options) => options,
         Err(error) => return answer(error.kind(), error.to_string(alloc), streams),
     };
+    if has_words_after(words) {
+        return report_misplaced(alloc, words, &mut streams.errors);
+    }
     if options.list {
         return list(alloc, streams);
     }
@@ -76,7 +80,8 @@ pub fn run<A: AsStr, O: WriteOnce, E: WriteOnce, S: LimitedStarter>(
 }
 
 /// The hint after an unknown argument or option.
-const HINT: &[u8] = b"An engine's command is one argument: put it in quotes\n";
+const HINT: &[u8] =
+    b"An engine's command is one argument, in quotes: gtp_check 'gnugo --mode gtp'\n";
 
 /// Handles an error that `clap` returns instead of options, and returns the status. After an unknown argument or option
 /// comes a hint, since most of these belong to the engine's command.

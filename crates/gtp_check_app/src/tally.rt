@@ -1,29 +1,27 @@
 //! What was found so far.
 ghost use Rattle.std.specs.Prelude.{◌≡◌, ◌-◌, ◌<◌, ◌||◌, nat_lt, not};
-ghost use Rattle.gtp_check_app.specs.Tally.{alike, found, started_again, in_lesson, is_shown, nothing_found};
+ghost use Rattle.gtp_check_app.specs.Tally.{alike, found, started_again, is_shown, nothing_found};
 ghost use Rattle.gtp_check_app.specs.Tally.{with_hidden, with_unjudged};
 
 use arrayvec::ArrayVec;
 use gtp_check_course::Lesson;
 use gtp_check_talk::Fault;
 
-/// How many complaints of one kind a lesson shows.
+/// How many complaints of one kind are shown.
 const MOST_SHOWN_ALIKE: usize = 3;
 
 /// How many lessons there are.
 const ALL: usize = 15;
 
-/// How many faults of one lesson are known at most. A lesson is over before it has so many.
-const MOST_KNOWN: usize = 32;
+/// How many faults are known at most. There are fewer kinds than a third of it.
+const MOST_KNOWN: usize = 128;
 
 /// The complaints so far.
 #[derive(Drop)]
 pub struct Tally {
     /// How many there are.
     pub complaints: u32,
-    /// The lesson of the last one.
-    pub lesson: Option<Lesson>,
-    /// What was wrong in that lesson.
+    /// The faults whose complaints are shown.
     pub faults: ArrayVec<Fault, MOST_KNOWN>,
     /// How many of each lesson aren't shown, in the order of all lessons.
     pub hidden: [u32; ALL],
@@ -44,7 +42,6 @@ impl Tally {
     {
         Tally {
             complaints: 0,
-            lesson: None,
             faults: ArrayVec::new(),
             hidden: [0; ALL],
             starts_left,
@@ -54,34 +51,23 @@ impl Tally {
         }
     }
 
-    /// Counts a fault of a lesson. Returns whether its complaint is shown: a lesson shows three of each kind.
+    /// Counts a fault of a lesson. Returns whether its complaint is shown: three of each kind are, over all lessons.
     pub fn find(&mut self, lesson: Lesson, fault: Fault) -> bool
-        ensures shown { result ≡ is_shown self.old lesson fault }
+        ensures shown { result ≡ is_shown self.old fault }
         ensures found { self.new ≡ found self.old lesson fault }
     {
-        self.turn_to(lesson);
         let is_shown = self.alike(fault) < MOST_SHOWN_ALIKE;
         self.complaints = self.complaints.saturating_add(1);
         self.is_after_fault = true;
-        let _ = self.faults.try_push(fault);
-        if !is_shown {
+        if is_shown {
+            let _ = self.faults.try_push(fault);
+        } else {
             self.hide(lesson);
         }
         is_shown
     }
 
-    /// Forgets what was wrong in another lesson.
-    fn turn_to(&mut self, lesson: Lesson)
-        ensures { self.new ≡ in_lesson self.old lesson }
-    {
-        match self.lesson {
-            Some(last) if last.number() == lesson.number() => {}
-            _ => self.faults = ArrayVec::new(),
-        }
-        self.lesson = Some(lesson);
-    }
-
-    /// How often this was wrong in the lesson.
+    /// How many complaints of this fault are shown.
     fn alike(&self, fault: Fault) -> usize
         ensures { result ≡ alike self.now.faults.items fault }
     {

@@ -1,7 +1,8 @@
-use Rattle.std.proofs.Common.{sym}
+use Rattle.std.proofs.Common.{◌∙◌, sym}
 use Rattle.gtp_check_app.specs.Checks.{checked, outputs_of, stopped}
 use Rattle.gtp_check_app.specs.Sequence.{beginning, known_of}
-use Rattle.gtp_check_app.proofs.Running.{answered_status, clap_ran, held_status, list_ran, listed_status, no_plan_ran}
+use Rattle.gtp_check_app.proofs.Running.{answered_status, clap_ran, held_status, list_ran, listed_status}
+use Rattle.gtp_check_app.proofs.Running.{misplaced_ran, misplaced_status, no_plan_ran}
 use Rattle.gtp_check_app.proofs.run.run.Goals as goal
 
 pub returns-in-Err-clause-ran : goal.returns-in-Err-clause-ran
@@ -12,6 +13,17 @@ returns-in-Err-clause-ran g c =
 
 pub returns-in-Err-clause-status : goal.returns-in-Err-clause-status
 returns-in-Err-clause-status g c = answered_status _ (outputs_of c.answer.new.streams) c.answer.ensures
+
+pub returns-then-has_words_after-clause-ran : goal.returns-then-has_words_after-clause-ran
+returns-then-has_words_after-clause-ran g c =
+    misplaced_ran (known_of g.S.Process.Process g.O.WriteOnce g.E.WriteOnce) _ c.args.shows_progress
+    (g.S.Starter.asked c.args.starter.now) c.args.streams.now c.in-Ok.options c.in-Ok.ensures.asked
+    (sym c.has_words_after.ensures ∙ c.if-has_words_after.true) c.report_misplaced.result
+    c.report_misplaced.new.errors c.report_misplaced.ensures
+
+pub returns-then-has_words_after-clause-status : goal.returns-then-has_words_after-clause-status
+returns-then-has_words_after-clause-status g c =
+    misplaced_status c.report_misplaced.result c.report_misplaced.new.errors c.report_misplaced.ensures
 
 pub returns-then-options-clause-ran : goal.returns-then-options-clause-ran
 returns-then-options-clause-ran g c =

@@ -17,13 +17,13 @@ fn three_of_a_kind_are_shown_and_starts_without_a_right_answer_are_counted(rt: H
         }
     }
     assert_equal(&rt, shown, 3);
-    assert_equal(&rt, tally.hidden[4], 2);
     assert_equal(
         &rt,
         tally.find(Lesson::Ko, Fault::Wrote(Kind::NoMove)),
         true,
     );
-    assert_equal(&rt, tally.find(Lesson::Komi, refused), true);
+    assert_equal(&rt, tally.find(Lesson::Komi, refused), false);
+    assert_equal(&rt, (tally.hidden[4], tally.hidden[9]), (2, 1));
     assert_equal(&rt, tally.complaints, 7);
     assert_equal(&rt, tally.may_start(), true);
     tally.start();
