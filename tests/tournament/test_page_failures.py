@@ -2,10 +2,16 @@
 from __future__ import annotations
 
 import json
+from typing import Dict
+
+import pytest
 
 from .html_page import Page, read
+from .inside import module
 from .runner import Runner
 from .written import ENDED, write_plan, write_result, write_results
+
+TAKEN = "an illegal move: the point is occupied; it wrote"
 
 
 def page_of(runner: Runner) -> Page:
@@ -52,6 +58,72 @@ def test_failures_by_cause(runner: Runner) -> None:
     # of ten games five have a result, and four were never begun
     assert "no result: 5 games, 1 of them failed" in text
     assert "no result: 5\n" in runner.tally("all").output
+
+
+def write_logs(runner: Runner, logs: Dict[str, str]) -> None:
+    """Writes games that b forfeits, and their logs, in which `b: ` begins a line of twogtp."""
+    folder = runner.folder / "all"
+    write_plan(folder, "ab", 3)
+    (folder / "logs").mkdir()
+    for game, log in logs.items():
+        verdict = f"{'BW'[game.endswith('b_a')]}+F(illegal move)"
+        write_result(folder, game, f"{verdict} moves 1 restarts 0 0", "A1")
+        colour = "white" if game.endswith("a_b") else "black"
+        (folder / "logs" / game).write_text(log.replace("b: ", f"twogtp: game 1: {colour}: "))
+
+
+def test_cause_is_one_though_its_command_and_its_point_differ(runner: Runner) -> None:
+    logs = {
+        "1_a_b": f'b: 1 unanswered, "73 genmove w": {TAKEN} "=73 B8\\n\\n"\n',
+        "1_b_a": f'b: 1 unanswered, "6 genmove b": {TAKEN} "=6 c11\\n\\n"\n',
+        "2_a_b": f'b: 1 unanswered, "9 genmove w": {TAKEN} "=9 T19\\n\\n"\n',
+        "2_b_a": 'b: 1 unanswered, "6 genmove b": an illegal move: ko; it wrote "=6 A1\\n\\n"\n',
+    }
+    write_logs(runner, logs)
+    text = page_of(runner).texts["failures"]
+    # the last one of them is the example
+    example = f'command 9, genmove w: {TAKEN} "=9 T19\\n\\n"'
+    assert f"{example}: 3 games, alike but for numbers, points and colours" in text
+    assert 'an illegal move: ko; it wrote "=6 A1\\n\\n": 1 game2_b_a' in text
+    assert text.count("command ") == 2 and "unanswered" not in text
+
+
+def test_log_that_has_only_the_cause_is_not_repeated(runner: Runner) -> None:
+    lie = 'b: 1 unanswered, "6 genmove b": an illegal move: ko; it wrote "=6 A1\\n\\n"\n'
+    write_logs(runner, {"1_b_a": lie, "2_b_a": "loading\n" + lie.replace("ko", "suicide")})
+    text = page_of(runner).texts["failures"]
+    assert text.count("the end of the log of") == 1 and "the end of the log of 2_b_a" in text
+
+
+@pytest.mark.parametrize(
+    "cause, words",
+    [
+        (
+            '1 unanswered, "4 genmove b": its output ended, signal 11; it wrote ""',
+            "command 4, genmove b, without a whole answer: its output ended, signal 11; it wrote"
+            ' ""',
+        ),
+        (
+            '3 unanswered, the first "1 boardsize 9": not a GTP reply (it begins with neither = nor'
+            ' ?); it wrote "Hi\\n"',
+            "3 commands without a whole answer, from command 1, boardsize 9, on: not a GTP reply"
+            ' (it begins with neither = nor ?); it wrote "Hi\\n"',
+        ),
+        (
+            '3 unanswered, the first "1 boardsize 13": unfit: the command failed, or was answered'
+            ' wrongly; it wrote "?1 no\\n\\n"',
+            "command 1, boardsize 13: unfit: the command failed, or was answered wrongly; it wrote"
+            ' "?1 no\\n\\n"',
+        ),
+        (
+            '0 unanswered: a reply to nothing that was asked; it wrote "=3\\n\\n"',
+            'a reply to nothing that was asked; it wrote "=3\\n\\n"',
+        ),
+        ('not started: no such file: "x"', 'not started: no such file: "x"'),
+    ],
+)
+def test_cause_in_words(cause: str, words: str) -> None:
+    assert module("report.page.causes").in_words(cause) == words
 
 
 def test_games_without_result_that_all_failed(runner: Runner) -> None:

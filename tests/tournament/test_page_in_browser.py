@@ -196,7 +196,7 @@ USES: Dict[str, Tuple[str, Any]] = {
     ),
     # each game has a board, one has two files, and ten heads sort
     "links look so": (
-        'const ways = it => getComputedStyle(it).textDecorationLine;'
+        "const ways = it => getComputedStyle(it).textDecorationLine;"
         ' return all("#list a, #list thead button").map(ways)',
         ["underline"] * (3 + 2 + 10),
     ),

@@ -2,13 +2,13 @@
 from __future__ import annotations
 
 import os
-import re
 from typing import Iterator, NamedTuple
 from urllib.parse import quote
 
 from ...model import Side
 from ...stats.summary import without_result
 from ...store import notes
+from .causes import COLOUR, in_words, what_is_alike
 from .games import Gathered
 from .markup import Child, Html, behind, counted, inner, joined, tag
 
@@ -19,8 +19,6 @@ END_OF_LOG = 2500  # bytes of a log that the page has
 MOST_QUOTED = 200  # characters of its last line
 OF_SCRIPTS = ("twogtp: ", "tournament: ")  # with which lines of a log begin that no engine wrote
 FILES = ("logs", "notes")
-COLOUR = re.compile(r"\x1b\[[0-9;]*m")
-CHANGING = re.compile(rf"{COLOUR.pattern}|[0-9]+")  # causes are alike without these
 CUT = "[..]"
 UNKNOWN = "its cause isn't known"
 
@@ -36,7 +34,7 @@ class Group(NamedTuple):
 
 
 class Cause(NamedTuple):
-    """A cause, and its games."""
+    """A cause, as it is in the first one of its games."""
 
     text: str
     games: list[str]
@@ -111,7 +109,7 @@ class Failures:
             return ""
         last = self.last_line(name)
         quoted = f"the engines' last line in the log: {last}" if last else ""
-        return "; ".join(filter(None, [self.causes_of[name], quoted]))
+        return "; ".join(filter(None, [in_words(self.causes_of[name]), quoted]))
 
     def files_of(self, name: str) -> int:
         """Returns which files of a game have something in them: 1 for its log, 2 for its notes."""
@@ -124,7 +122,7 @@ class Failures:
         found: dict[str, Cause] = {}
         for name in group.games[:MOST_LOOKED_AT]:
             text = self.cause(name) or UNKNOWN
-            found.setdefault(CHANGING.sub("", text), Cause(text, [])).games.append(name)
+            found.setdefault(what_is_alike(text), Cause(text, [])).games.append(name)
         return sorted(found.values(), key=lambda cause: -len(cause.games))
 
     # ---- as HTML
@@ -171,15 +169,24 @@ class Failures:
             text = f"and {more} more"
             link = tag("a", text, data_to=address_of(group)) if group.engine else text
             named.append(tag("li", link))
-        first = cause.games[0]
-        log = self.log(first)
+        differ = len({self.cause(name) for name in cause.games}) > 1
         return tag(
             "li",
-            tag("code", cause.text),
+            tag("code", in_words(cause.text)),
             f": {counted(len(cause.games))}",
+            ", alike but for numbers, points and colours" if differ else None,
             tag("ul", named, class_="named"),
-            behind(f"the end of the log of {first}", tag("pre", log)) if log else None,
+            self.end_of_log(cause),
         )
+
+    def end_of_log(self, cause: Cause) -> Html | None:
+        """Returns the end of the log of a cause's first game, where it says more than the cause."""
+        first = cause.games[0]
+        log = self.log(first)
+        lines = [line for line in log.split("\n") if line.strip()]
+        if not lines or len(lines) == 1 and lines[0].endswith(cause.text):
+            return None
+        return behind(f"the end of the log of {first}", tag("pre", log))
 
     def of_game(self, name: str, has_board: bool) -> Html:
         """Returns a game with links to its board, its log and its notes."""
