@@ -99,6 +99,9 @@ def test_fault_in_the_rules_would_be_noticed(fault: str, played: Dict[str, Path]
 # ---- use
 
 
+TAKEN = '"6 genmove b": an illegal move: the point is occupied; it wrote "=6 a2\\n\\n"'
+
+
 @pytest.fixture(scope="module")
 def written(shared_runner: Runner) -> Path:
     """Returns the page of three games that were written by hand."""
@@ -112,7 +115,7 @@ def written(shared_runner: Runner) -> Path:
         "1_b_a on here\n2 white A2 0.000\nresult: W+F(illegal move) moves 2 restarts 0 0\n"
     )
     (folder / "logs").mkdir()
-    (folder / "logs/1_b_a").write_text("oh no\ntwogtp: game 1: black: A2 isn't empty\n")
+    (folder / "logs/1_b_a").write_text(f"oh no\ntwogtp: game 1: black: 1 unanswered, {TAKEN}\n")
     write_result(folder, "2_a_b", "limit moves 4 restarts 1 0", "A1 A2 A3 B1")
     (folder / "notes/2_a_b").write_text(
         "2_a_b on here\n3 black ended 0.5: 7 genmove b: signal 9\n"
@@ -173,12 +176,18 @@ USES: Dict[str, Tuple[str, Any]] = {
     "end": ('await open("1_a_b"); return said()', "6 of 6: White pass. The end: B+R"),
     "no time": (
         'await open("1_b_a"); return said()',
-        "2 of 2: White A2, 0.000 s. The end: W+F(illegal move)",
+        "2 of 2: White A2, 0.000 s. b tried A2, where a stone stood. The end: W+F(illegal move)",
+    ),
+    # it is marked where the record ends, and not before
+    "a refused move at the end": (
+        "const found = []; for (const move of [1, 2]) {"
+        ' await open("1_b_a", move); found.push(all("#board .refused").length); } return found',
+        [0, 1],
     ),
     "why": (
         'await open("1_b_a"); return document.querySelector(".why").textContent',
-        "b: forfeit (illegal move): A2 isn't empty; the engines' last line in the log: oh no"
-        " log notes",
+        "b: forfeit (illegal move): command 6, genmove b: an illegal move: the point is occupied;"
+        ' it wrote "=6 a2\\n\\n"; the engines\' last line in the log: oh no log notes',
     ),
     "restarts": (
         'await open("2_a_b"); const [button] = all(".faults button"); click(button);'

@@ -1,5 +1,5 @@
-"""Why a side failed, as twogtp writes it to a log: in words, and without what differs from game to
-game."""
+"""Why a side failed, as twogtp writes it to a log: in words, without what differs from game to
+game; and the illegal move that a side tried."""
 from __future__ import annotations
 
 import re
@@ -8,6 +8,10 @@ COLOUR = re.compile(r"\x1b\[[0-9;]*m")  # of a terminal
 OWED = re.compile(
     r'(?P<count>[0-9]+) unanswered(?:, (?:the first )?"(?P<number>[0-9]+) (?P<command>.*?)")?'
     r": (?P<rest>.*)",
+    re.DOTALL,
+)
+TRIED = re.compile(
+    r'.*"[0-9]+ genmove [bw]": an illegal move: .*; it wrote "=[0-9]* +([A-Za-z][0-9]{1,2})\\n.*',
     re.DOTALL,
 )
 # how what happened begins where there is no whole reply to the command
@@ -38,6 +42,12 @@ def in_words(cause: str) -> str:
     if owed["count"] == "1":
         return f"{command}, without a whole answer: {rest}"
     return f"{owed['count']} commands without a whole answer, from {command}, on: {rest}"
+
+
+def point_tried(cause: str) -> str | None:
+    """Returns the point of an illegal move; None where a cause has none."""
+    tried = TRIED.fullmatch(cause)
+    return tried[1].upper() if tried else None
 
 
 def what_is_alike(cause: str) -> str:

@@ -186,10 +186,12 @@ def rare_columns(games: Sequence[Game]) -> dict[str, dict[int, object]]:
 
 def columns_of_failures(games: Sequence[Game], failures: Failures) -> dict[str, object]:
     """Returns what the script has to know of games in which an engine failed, by their places:
-    their files, why a side failed, and before which moves engines ended. A text is there once."""
+    their files, why a side failed, by which illegal move, and before which moves engines ended. A
+    text is there once."""
     texts: dict[str, int] = {}
     files: dict[int, int] = {}
     why: dict[int, int] = {}
+    tried: dict[int, int] = {}
     faults: dict[int, list[list[int]]] = {}
     for place, game in enumerate(games):
         if game.has_files:
@@ -198,12 +200,15 @@ def columns_of_failures(games: Sequence[Game], failures: Failures) -> dict[str, 
             said = visible(failures.said_of(name))
             if said:
                 why[place] = texts.setdefault(said, len(texts))
+            move = failures.move_tried(name)
+            if move is not None:
+                tried[place] = move
             if game.noted.faults:
                 faults[place] = [
                     [fault.move, fault.side, texts.setdefault(visible(fault.cause), len(texts))]
                     for fault in game.noted.faults
                 ]
-    named = {"files": files, "why": why, "faults": faults}
+    named = {"files": files, "why": why, "tried": tried, "faults": faults}
     return {**named, "texts": list(texts), "folder": failures.base}
 
 

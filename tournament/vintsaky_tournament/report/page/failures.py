@@ -8,7 +8,7 @@ from urllib.parse import quote
 from ...model import Side
 from ...stats.summary import without_result
 from ...store import notes
-from .causes import COLOUR, in_words, what_is_alike
+from .causes import COLOUR, in_words, point_tried, what_is_alike
 from .games import Gathered
 from .markup import Child, Html, behind, counted, inner, joined, tag
 
@@ -110,6 +110,12 @@ class Failures:
         last = self.last_line(name)
         quoted = f"the engines' last line in the log: {last}" if last else ""
         return "; ".join(filter(None, [in_words(self.causes_of[name]), quoted]))
+
+    def move_tried(self, name: str) -> int | None:
+        """Returns the illegal move by which a side forfeited a game; None if it has none, or isn't
+        one of those that are looked at."""
+        point = point_tried(self.causes_of.get(name, ""))
+        return None if point is None else self.gathered.reader.numbers.get(point)
 
     def files_of(self, name: str) -> int:
         """Returns which files of a game have something in them: 1 for its log, 2 for its notes."""

@@ -20,7 +20,7 @@ function takeData(text) {
       spent: [data.black[place], data.white[place]], ended: data.began + ended[place],
       restarts: data.restarts[place] || [0, 0], dead: data.dead[place] || [],
       other: data.other[place] || "", files: data.files[place] ?? null,
-      why: data.texts[data.why[place]] || "",
+      why: data.texts[data.why[place]] || "", tried: data.tried[place] ?? null,
       faults: (data.faults[place] || []).map(([move, side, text]) =>
         ({move, side, text: data.texts[text]})),
     };
@@ -66,6 +66,7 @@ async function recordOf(game) {
     name: game.name, title: `${engines.join(" - ")}, seed ${game.seed}`, engines, size, steps,
     komi: data.komi, handicap: data.handicap, black: handicapPoints(size, data.handicap), white: [],
     first: opener, spent: game.spent, dead: game.dead, ended, result: resultOf(game),
+    tried: game.tried === null ? null : {name: engines[game.blamed], move: game.tried},
     faults: game.faults, why: [blamed, game.why].filter(Boolean).join(": "), files: filesOf(game),
     atEnd: game.kind === "in play" ? "In play" : `The end: ${game.verdict}`,
   };

@@ -1,7 +1,8 @@
 // The viewer of a game. A game has a name, a title, the engines, the size, the komi, the stones of
 // both sides at first, and steps: each a move of a side with its seconds, or `undo`, or one that
 // was `refused`, or a new `board`. Any step may have a text. A game may have `faults`, each of a
-// side before a move and with a text, say `why` a side failed, and have links to `files`.
+// side before a move and with a text, say `why` a side failed, have an illegal move that an engine
+// `tried` at the end, and have links to `files`.
 
 // Returns the positions of a game: at first, and after each step.
 function positionsOf(game) {
@@ -53,7 +54,8 @@ function makeViewer({another, moved}) {
     const dead = isLast && game.dead || [], hasArea = byId("area").checked;
     const numbers = byId("numbers").checked ? numbersOf(position) : null;
     const owners = hasArea ? ownersOf(position, dead) : null;
-    const refused = step.refused ? step.move : null;
+    const tried = isLast && game.tried ? game.tried.move : null;
+    const refused = step.refused ? step.move : tried;
     byId("slider").value = shown.move;
     for (const side of [0, 1]) {
       byId(`captured${side}`).textContent = `${position.captured[side]} captured`;
@@ -169,8 +171,18 @@ function textOf(game, position, move) {
   }
   if (position.ko !== null) parts.push(`; ko at ${vertexOf(position.size, position.ko)}`);
   if (step && step.text) parts.push(`. ${step.text}`);
-  if (move === game.steps.length) parts.push(`. ${game.atEnd}`);
+  if (move === game.steps.length) {
+    if (game.tried) parts.push(`. ${triedOn(position, game.tried)}`);
+    parts.push(`. ${game.atEnd}`);
+  }
   return parts.join("");
+}
+
+// Returns what is said of an illegal move.
+function triedOn({size, points, ko}, {name, move}) {
+  const why = points[move] ? "where a stone stood" : move === ko ? "where the ko forbids it"
+    : "which the rules forbid";
+  return `${name} tried ${vertexOf(size, move)}, ${why}`;
 }
 
 // Returns the number of the last move on each point.
