@@ -195,8 +195,10 @@ def test_engine_that_refuses_everything(checker: Checker, tmp_path: Path) -> Non
     }
     one_size = ("sizes", "handicaps")
     starts = 3 + len(parts)
-    commands = starts * 5 + 3 + sum(
-        count if lesson in one_size else 22 * count for lesson, count in parts.items()
+    commands = (
+        starts * 5
+        + 3
+        + sum(count if lesson in one_size else 22 * count for lesson, count in parts.items())
     )
     check = checker.check(ENGINES["refuses"].command(tmp_path), "--trials", "0")
     assert (check.status, check.errors) == (1, "")
