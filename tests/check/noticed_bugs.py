@@ -85,6 +85,8 @@ OTHERS: Dict[Lessons, Tuple[str, ...]] = {
         "suicide_is_noted",
         # legal retakes
         "ko_after_a_chain ko_after_two_stones",
+        # the capture of two stones, and its `undo`
+        "one_captured_stone_comes_back prisoners_allow_suicide",
         # ids of more than 32,767: so many commands has one engine in this lesson
         "ids_are_shorts",
     ),
@@ -98,7 +100,7 @@ OTHERS: Dict[Lessons, Tuple[str, ...]] = {
         "ids_have_three_digits ids_have_commas",
         # refused as suicide, and legal
         "one_liberty_is_suicide first_neighbour_decides",
-        "both_chains_die shared_liberty_counts_once prisoners_allow_suicide colours_by_turn",
+        "both_chains_die shared_liberty_counts_once colours_by_turn",
         "ko_stays stones_of_the_game_before taken_stones_of_the_game_before",
         "boards_of_earlier_games",
         # where hardly a point is legal
@@ -142,8 +144,6 @@ OTHERS: Dict[Lessons, Tuple[str, ...]] = {
 }
 # bugs that are noticed by chance, as checks have shown
 CHANCE: Dict[Lessons, Tuple[str, ...]] = {
-    # the engine captures in a ko, and is asked to undo
-    ("genmoves", "sizes"): ("ko_after_a_genmove",),
     # A chain is captured that has two stones at the play, and later the engine chooses one of its
     # points twice. After a handicap random plays meet White's stones where Black's should be.
     ("genmoves",): ("empty_points_are_listed_twice", "handicap_makes_the_engine_white"),
@@ -191,6 +191,7 @@ UNNOTICED = {
     "moves_taken_back_fill_a_list": KEPT_IN_PART,
     "undo_once": KEPT_IN_PART,
     "eight_moves_are_kept": KEPT_IN_PART,
+    "ko_after_a_genmove": "the engine itself takes a ko only by chance",
     "ko_forgotten_at_a_suicide": "no ko is open where a suicide is asked",
     "games_are_counted_in_a_byte": "there was another stone since that of 256 games before",
     "stones_on_lines_of_their_own": "the points of a handicap are read from all lines of the reply",

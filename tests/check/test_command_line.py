@@ -63,7 +63,13 @@ def test_usage_error(words: list[str], named: list[str], gtp_check: Path, tmp_pa
     assert not (tmp_path / "started").exists()
 
 
-VALUES = {"--ko": "simple", "--suicide": "unasked", "--only": "ko", "--skip": "ko"}
+VALUES = {
+    "--ko": "simple",
+    "--suicide": "unasked",
+    "--score": "unasked",
+    "--only": "ko",
+    "--skip": "ko",
+}
 STAND_BEFORE = "gtp_check: options stand before the engine's command: gtp_check"
 
 

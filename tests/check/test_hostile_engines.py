@@ -203,7 +203,7 @@ def test_engine_that_refuses_everything(checker: Checker, tmp_path: Path) -> Non
     check = checker.check(ENGINES["refuses"].command(tmp_path), "--trials", "0")
     assert (check.status, check.errors) == (1, "")
     complaints = [(complaint.command, complaint.fault) for complaint in check.report.complaints]
-    assert complaints == [("50 list_commands", REFUSED), ("49 protocol_version", REFUSED)]
+    assert complaints == [("50 list_commands", REFUSED), ("27 protocol_version", REFUSED)]
     unasked = "no play and no genmove was answered rightly on any board of it"
     assert list(check.report.notes) == [
         *(f"{lesson}: {unasked}" for lesson in parts),

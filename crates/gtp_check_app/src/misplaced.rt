@@ -11,15 +11,18 @@ use std::alloc::{AllocError, Global};
 use std::convert::AsStr;
 
 /// The options that take a value.
-static VALUED: [&str; 8] = [
+static VALUED: [&str; 11] = [
     "--size",
     "--ko",
     "--suicide",
+    "--score",
     "--seed",
     "--only",
     "--skip",
     "--restarts",
     "--trials",
+    "--timeout",
+    "--start-timeout",
 ];
 
 /// The line up to the words as they should stand.
