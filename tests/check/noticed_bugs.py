@@ -45,7 +45,7 @@ OTHERS: Dict[Lessons, Tuple[str, ...]] = {
     ("start", "sizes"): ("old_colour_stays book_has_no_sizes",),
     ("placed",): (
         # the stone of a move that was chosen is surrounded, and is captured or isn't
-        "stone_by_turn no_colour_is_read first_stone_is_blacks",
+        "stone_by_turn no_colour_is_read first_stone_is_blacks handicap_makes_the_engine_white",
     ),
     ("errors",): (
         "no_reply_to_an_unknown_command unknown_is_a_failure unread_komi_is_zero",
@@ -121,6 +121,8 @@ OTHERS: Dict[Lessons, Tuple[str, ...]] = {
         "genmove_out_of_turn",
         # after a full board with three gaps, which are filled before the next move is asked for
         "choice_of_the_game_before",
+        # it takes a ko itself, where it has four points to choose from
+        "ko_after_a_genmove",
     ),
     ("record",): ("two_passes_end_the_game",),
     ("restarts",): (
@@ -145,8 +147,8 @@ OTHERS: Dict[Lessons, Tuple[str, ...]] = {
 # bugs that are noticed by chance, as checks have shown
 CHANCE: Dict[Lessons, Tuple[str, ...]] = {
     # A chain is captured that has two stones at the play, and later the engine chooses one of its
-    # points twice. After a handicap random plays meet White's stones where Black's should be.
-    ("genmoves",): ("empty_points_are_listed_twice", "handicap_makes_the_engine_white"),
+    # points twice.
+    ("genmoves",): ("empty_points_are_listed_twice",),
 }
 NOTICED = {
     name: lessons
@@ -191,7 +193,6 @@ UNNOTICED = {
     "moves_taken_back_fill_a_list": KEPT_IN_PART,
     "undo_once": KEPT_IN_PART,
     "eight_moves_are_kept": KEPT_IN_PART,
-    "ko_after_a_genmove": "the engine itself takes a ko only by chance",
     "ko_forgotten_at_a_suicide": "no ko is open where a suicide is asked",
     "games_are_counted_in_a_byte": "there was another stone since that of 256 games before",
     "stones_on_lines_of_their_own": "the points of a handicap are read from all lines of the reply",

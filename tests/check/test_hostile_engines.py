@@ -189,7 +189,7 @@ def test_engine_that_refuses_everything(checker: Checker, tmp_path: Path) -> Non
     # in pieces. The commands are five of each start, one for each part of a lesson, and in those
     # that look for the size of scenes 21 more.
     parts = {
-        **{"start": 4, "placed": 1, "errors": 4, "sizes": 25, "ko": 4 * 20},
+        **{"start": 4, "placed": 4, "errors": 4, "sizes": 25, "ko": 4 * 20},
         **{"captures": 10 * 20, "suicide": 5 * 20, "joining": 4 * 20, "handicaps": 25 * 12},
         **{"komi": 19, "drawn": 11, "record": 3, "genmoves": 9, "games": 5, "restarts": 5},
     }

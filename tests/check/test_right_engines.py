@@ -86,7 +86,7 @@ ENGINES = [
     dressed("without_handicaps", "handicaps", "games", notes=lacks("fixed_handicap")),
     dressed("without_scores", "komi", "games", notes=lacks("final_score")),
     dressed("three_sizes", "start", "sizes", "games", notes=refuses([5, 6, 7, 8], 9, 13, 19)),
-    dressed("one_size", notes=refuses([5, 6], 7)),
+    dressed("one_size", notes=refuses([5, 6, 9, 13, 19], 7)),
     dressed(
         "nineteen", "start", "sizes", "komi", "drawn", "games", notes=refuses(range(5, 19), 19)
     ),

@@ -3,8 +3,8 @@ use Rattle.std.specs.Prelude.{◌≡◌, ℕ, ◌+◌, ◌-◌, ◌/◌, ◌%◌
 use Rattle.std.specs.Prelude.{max, slice_index_or, Option, None, Some, is_none}
 use Rattle.go_base.specs.Size.{most_size}
 use Rattle.gtp_check_course.specs.declared.lessons.Lesson.{Lesson}
-use Rattle.gtp_check_course.specs.declared.lessons.Lesson.TheVariants.{Start, Sizes, Handicaps, Komi, Drawn, Record}
-use Rattle.gtp_check_course.specs.declared.lessons.Lesson.TheVariants.{Genmoves, Games, Restarts}
+use Rattle.gtp_check_course.specs.declared.lessons.Lesson.TheVariants.{Start, Placed, Sizes, Handicaps, Komi, Drawn}
+use Rattle.gtp_check_course.specs.declared.lessons.Lesson.TheVariants.{Record, Genmoves, Games, Restarts}
 use Rattle.gtp_check_course.specs.declared.lessons.Lesson.TheVariants.{Ko, Captures, Suicide, Joining}
 use Rattle.gtp_check_course.specs.declared.boards.Board.{Board}
 use Rattle.gtp_check_course.specs.declared.boards.TheConstants.{DRAWN, GAMES, GENMOVES, HANDICAPPED, INEXACT_KOMIS}
@@ -17,16 +17,18 @@ use Rattle.gtp_check_course.specs.Scenes.{gaps_of, has_handicap, way_of, scene_o
 abbrev pub lines_of_scene : Lesson → ℕ → ℕ → ℕ
 lines_of_scene lesson part scene_size = if has_handicap lesson part then max scene_size 9 else scene_size
 
--- the size of a part about komi: that of scenes for the sixteen komis, and then one that has handicaps
-abbrev pub komi_lines : ℕ → ℕ → ℕ
-komi_lines part scene_size = if nat_lt part 16 then scene_size else slice_index_or HANDICAPPED (part - 16) scene_size
+-- the size of a part: before the part of this number that of scenes, and from then on one that has handicaps
+abbrev pub lines_from : ℕ → ℕ → ℕ → ℕ
+lines_from first part scene_size =
+    if nat_lt part first then scene_size else slice_index_or HANDICAPPED (part - first) scene_size
 
 -- The size that a part asks for, where scenes are on boards of this size. After the sizes of a table comes that of
 -- scenes.
 abbrev pub lines_of : Lesson → ℕ → ℕ → ℕ
 lines_of Sizes part scene_size = part + 1
 lines_of Handicaps part scene_size = part / 12 + 1
-lines_of Komi part scene_size = komi_lines part scene_size
+lines_of Placed part scene_size = lines_from 1 part scene_size
+lines_of Komi part scene_size = lines_from 16 part scene_size
 lines_of Drawn part scene_size = slice_index_or DRAWN part scene_size
 lines_of Record part scene_size = slice_index_or RECORD part scene_size
 lines_of Genmoves part scene_size = slice_index_or GENMOVES part scene_size

@@ -11,7 +11,7 @@ use Rattle.gtp_check_course.specs.declared.errors.TheConstants.{REQUIRED, UNKNOW
 use Rattle.gtp_check_course.specs.declared.games.TheConstants.{RECORD, GENMOVES, GAMES, RESTARTS}
 use Rattle.gtp_check_course.specs.declared.lessons.TheConstants.{LESSON_NAMES, LESSONS}
 use Rattle.gtp_check_course.specs.declared.tables.TheConstants.{SCENE, KO, REFUSED, START, PIECES, IN_FULL, LIST, SIZES}
-use Rattle.gtp_check_course.specs.declared.tables.TheConstants.{PLACED, HANDICAPS, KOMI, KOMI_OF_HANDICAPS, DRAWN}
+use Rattle.gtp_check_course.specs.declared.tables.TheConstants.{PLACED, PLACED_WITH_HANDICAP, HANDICAPS, KOMI, KOMI_OF_HANDICAPS, DRAWN}
 
 -- all lessons, in the order of a course
 abbrev pub all_lessons : List Lesson
@@ -39,11 +39,11 @@ number_of Restarts = 14
 abbrev pub name_of : Lesson → List ℕ
 name_of lesson = unwrap_or (slice_get (map (λ name. name.now) LESSON_NAMES) (number_of lesson)) []
 
--- the parts: four of the start, the second in chunks; one; four; each size; each scene in its sixteen ways, and in four
+-- the parts: four of the start, the second in chunks; four; four; each size; each scene in its sixteen ways, and in four
 -- of them after a handicap; each size with each number of handicap stones up to 11; and so on
 abbrev pub parts_of : Lesson → ℕ
 parts_of Start = 4
-parts_of Placed = 1
+parts_of Placed = 4
 parts_of Errors = 4
 parts_of Sizes = 25
 parts_of Ko = 80
@@ -74,6 +74,10 @@ start_parts part =
     else if part == 3 then LIST
     else START
 
+-- the stretches of a part about the engine's own moves: one on an empty board, and three sizes with a handicap
+abbrev pub placed_parts : ℕ → List Stretch
+placed_parts part = if part == 0 then PLACED else PLACED_WITH_HANDICAP
+
 -- the stretches of a part about komi: sixteen komis, and after them three sizes with a handicap
 abbrev pub komi_parts : ℕ → List Stretch
 komi_parts part = if nat_lt part 16 then KOMI else KOMI_OF_HANDICAPS
@@ -89,7 +93,7 @@ errors_parts part =
 -- the stretches of a part, one after the other
 abbrev pub stretches_of : Lesson → ℕ → List Stretch
 stretches_of Start part = start_parts part
-stretches_of Placed part = PLACED
+stretches_of Placed part = placed_parts part
 stretches_of Errors part = errors_parts part
 stretches_of Sizes part = SIZES
 stretches_of Ko part = KO

@@ -1,7 +1,7 @@
 //! The boards, komis and scenes on which each part of a lesson is asked.
 ghost use Rattle.std.specs.Prelude.{◌≡◌, ◌+◌, ◌<◌, slice_index_or};
 ghost use Rattle.gtp_check_course.specs.Places.{most_parts};
-ghost use Rattle.gtp_check_course.specs.Boards.{IsBoard, komi_lines, lines_of, size_or, komi_of, stones_of};
+ghost use Rattle.gtp_check_course.specs.Boards.{IsBoard, lines_from, lines_of, size_or, komi_of, stones_of};
 ghost use Rattle.gtp_check_course.specs.Boards.{inexact_komi_of, scene_size_or_least, turning_of};
 ghost use Rattle.gtp_check_course.specs.Boards.{lines_of_scene};
 ghost use Rattle.gtp_check_course.specs.Scenes.{gaps_of, has_handicap, scene_number, scene_of};
@@ -20,7 +20,7 @@ const RECORD: [u32; 2] = [9, 19];
 
 const GAMES: [u32; 4] = [9, 5, 13, 19];
 
-/// The board sizes on which komi is looked at after a handicap.
+/// The board sizes on which komi and the engine's own moves are looked at after a handicap.
 const HANDICAPPED: [u32; 3] = [9, 13, 19];
 
 /// Komis in half points. A float of 32 bits represents each of them. The first ten are from -1000 to 1000 points:
@@ -138,11 +138,12 @@ fn lines_of(lesson: Lesson, part: u32, scene_size: Size) -> u32
     ensures { result ≡ lines_of lesson part scene_size }
 {
     match lesson {
-        Lesson::Start | Lesson::Placed | Lesson::Errors => scene_size.get(),
+        Lesson::Start | Lesson::Errors => scene_size.get(),
         Lesson::Ko | Lesson::Captures | Lesson::Suicide | Lesson::Joining => {
             lines_of_scene(lesson, part, scene_size)
         }
-        Lesson::Komi => komi_lines(part, scene_size),
+        Lesson::Placed => lines_from(1, part, scene_size),
+        Lesson::Komi => lines_from(16, part, scene_size),
         Lesson::Sizes => part + 1,
         Lesson::Handicaps => part / 12 + 1,
         Lesson::Drawn => entry_or(&DRAWN, part, scene_size),
@@ -152,14 +153,14 @@ fn lines_of(lesson: Lesson, part: u32, scene_size: Size) -> u32
     }
 }
 
-/// Returns the size of a part about komi: that of scenes for the sixteen komis, and then one that has handicaps.
-fn komi_lines(part: u32, scene_size: Size) -> u32
-    ensures { result ≡ komi_lines part scene_size }
+/// Returns the size of a part: before the part of this number that of scenes, and from then on one that has handicaps.
+fn lines_from(first: u32, part: u32, scene_size: Size) -> u32
+    ensures { result ≡ lines_from first part scene_size }
 {
-    if part < 16 {
+    if part < first {
         scene_size.get()
     } else {
-        entry_or(&HANDICAPPED, part - 16, scene_size)
+        entry_or(&HANDICAPPED, part - first, scene_size)
     }
 }
 

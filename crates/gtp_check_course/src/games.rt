@@ -46,10 +46,11 @@ pub(crate) static RECORD: [Stretch; 39] = [
     Stretch::Score,
 ];
 
-/// Moves of the engine's own: in a game of them, on boards where hardly one is legal, and after a handicap. Then random
+/// Moves of the engine's own: in a game of them, on boards where hardly one is legal, also where one takes a ko, whose
+/// points are asked then, and after a handicap. Then random
 /// points are probed, which shows whether its board has the moves that it chose. During the first game another size is
 /// asked for, which an engine may refuse.
-pub(crate) static GENMOVES: [Stretch; 34] = [
+pub(crate) static GENMOVES: [Stretch; 46] = [
     Stretch::Fresh,
     Stretch::Seek,
     Stretch::Size,
@@ -73,6 +74,18 @@ pub(crate) static GENMOVES: [Stretch; 34] = [
     Stretch::Clear,
     Stretch::Gaps,
     Stretch::Chosen(Colour::Black),
+    Stretch::Clear,
+    Stretch::Moves,
+    Stretch::Undo,
+    Stretch::Sealed,
+    Stretch::Chosen(Colour::White),
+    Stretch::Own,
+    Stretch::Clear,
+    Stretch::Moves,
+    Stretch::Undo,
+    Stretch::Sealed,
+    Stretch::Chosen(Colour::White),
+    Stretch::Own,
     Stretch::Clear,
     Stretch::Filled,
     Stretch::Swept,

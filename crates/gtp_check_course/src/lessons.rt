@@ -2,7 +2,8 @@
 ghost use Rattle.std.specs.Prelude.{◌≡◌, ◌≤◌, length, map};
 ghost use Rattle.gtp_check_course.specs.Places.{most_parts, most_stretches};
 ghost use Rattle.gtp_check_course.specs.Lessons.{even_parts, is_in_pieces, name_of, number_of, parts_of};
-ghost use Rattle.gtp_check_course.specs.Lessons.{errors_parts, komi_parts, start_parts, stretches_of};
+ghost use Rattle.gtp_check_course.specs.Lessons.{errors_parts, komi_parts, placed_parts, start_parts};
+ghost use Rattle.gtp_check_course.specs.Lessons.{stretches_of};
 ghost use Rattle.gtp_check_course.specs.Scenes.{scenes_of};
 
 use crate::scenes::{CAPTURES, JOINING, KO, SUICIDE, Scene, WAYS};
@@ -133,7 +134,7 @@ impl Lesson {
     {
         match self {
             Lesson::Start => 4,
-            Lesson::Placed => 1,
+            Lesson::Placed => 4,
             Lesson::Errors => 4,
             Lesson::Sizes => 25,
             Lesson::Ko => 4 * PARTS_OF_SCENE,
@@ -180,7 +181,7 @@ impl Lesson {
     {
         match self {
             Lesson::Start => start_parts(part),
-            Lesson::Placed => &tables::PLACED,
+            Lesson::Placed => placed_parts(part),
             Lesson::Errors => errors_parts(part),
             Lesson::Sizes => &tables::SIZES,
             Lesson::Ko => &tables::KO,
@@ -219,6 +220,17 @@ fn start_parts(part: u32) -> &'static [Stretch]
         2 => &tables::IN_FULL,
         3 => &tables::LIST,
         _ => &tables::START,
+    }
+}
+
+/// Returns what this part of the lesson about the engine's own moves asks.
+fn placed_parts(part: u32) -> &'static [Stretch]
+    ensures stretches { result.now ≡ placed_parts part }
+    ensures few { length result.now ≤ most_stretches }
+{
+    match part {
+        0 => &tables::PLACED,
+        _ => &tables::PLACED_WITH_HANDICAP,
     }
 }
 

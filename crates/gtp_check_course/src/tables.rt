@@ -222,6 +222,27 @@ pub(crate) static PLACED: [Stretch; 32] = [
     Stretch::Clear,
 ];
 
+/// The same after a handicap, whose stones are Black's: for White, and for Black.
+pub(crate) static PLACED_WITH_HANDICAP: [Stretch; 17] = [
+    Stretch::Seek,
+    Stretch::Size,
+    Stretch::Taken,
+    Stretch::Komi,
+    Stretch::Clear,
+    Stretch::Handicap,
+    Stretch::Chosen(Colour::White),
+    Stretch::OnMove(0),
+    Stretch::AroundMove(0),
+    Stretch::OnMove(0),
+    Stretch::Clear,
+    Stretch::Handicap,
+    Stretch::Chosen(Colour::Black),
+    Stretch::OnMove(0),
+    Stretch::AroundMove(0),
+    Stretch::OnMove(0),
+    Stretch::Clear,
+];
+
 /// A few commands after a restart, whose lines are sent in chunks. (The standard's topic command structure: a command
 /// ends with a newline. A bug can spoil a match: the system may deliver the bytes of a line in chunks.)
 pub(crate) static PIECES: [Stretch; 8] = [

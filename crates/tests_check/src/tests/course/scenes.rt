@@ -3,6 +3,7 @@ use super::{PARTS_OF_SCENE, after, board, part_of};
 use crate::asserts::{assert_equal, assert_equal_for, some};
 use go_base::Colour::{self, Black, White};
 use go_board::PlayFault;
+use gtp_check_course::boards::Board;
 use gtp_check_course::lessons::Lesson;
 use gtp_check_course::scenes::{CAPTURES, JOINING, KO, SUICIDE, Scene, WAYS};
 use std::process::Abort;
