@@ -28,10 +28,12 @@ BLOCK = re.compile(
     \#\ right:\ (?P<right>.*)\n
     (?P<in_a_row>\#\ the\ last\ move\ was\ of\ the\ same\ colour:
       \ moves\ of\ one\ colour\ in\ a\ row\ are\ legal\n)?
+    (?P<in_full>\#\ if\ it\ takes\ the\ same\ with\ b\ or\ w,\ this\ is\ the\ cause:
+      \ a\ colour\ may\ be\ written\ in\ full,\ black\ or\ white\n)?
     (?P<ran_on>\#\ an\ answer\ may\ have\ run\ on\ into\ the\ next:
       \ does\ each\ end\ with\ an\ empty\ line,\ a\ failure\ too\?\n)?
     (?:\#\ asked\ before\ this\ answer\ was\ read:\n(?P<ahead>(?:\d.*\n)+))?
-    (?:\#\ under\ positional\ ko.*\n)?
+    (?:\#\ (?P<hint>(?:if|under)\ .*try\ --.*|if\ it\ never\ can:\ .*)\n)?
     """,
     re.VERBOSE,
 )
@@ -63,6 +65,8 @@ class Complaint(NamedTuple):
     in_a_row: bool  # whether the last move is said to be of the same colour
     ran_on: bool  # whether an answer is said to have run on
     ahead: Tuple[str, ...]  # the lines that were sent before the answer was read
+    in_full: bool  # whether a colour in full is said to be a possible cause
+    hint: str  # what is said to be tried
 
     @property
     def name(self) -> str:
@@ -101,8 +105,7 @@ def read_complaint(block: str) -> Complaint:
     assert is_board(match["board"]), block
     before = [line for line in match["before"].splitlines() if not line.startswith("#")]
     chosen = [Choice(*pair) for pair in CHOICE.findall(match["before"])]
-    if chosen or match["left_out"]:
-        assert [line for line, _ in chosen] == [line for line in before if " genmove " in line]
+    assert [line for line, _ in chosen] == [line for line in before if " genmove " in line]
     assert len(before) + len(chosen) == match["before"].count("\n"), block
     return Complaint(
         number=int(match["number"]),
@@ -118,6 +121,8 @@ def read_complaint(block: str) -> Complaint:
         in_a_row=bool(match["in_a_row"]),
         ran_on=bool(match["ran_on"]),
         ahead=tuple((match["ahead"] or "").splitlines()),
+        in_full=bool(match["in_full"]),
+        hint=match["hint"] or "",
     )
 
 

@@ -9,7 +9,7 @@ import pytest
 
 from tests.engines.wrong.plain import Plain
 
-from .checking import WRONG, Checker, RunEngine, only
+from .checking import PYTHON, WRONG, Checker, RunEngine, only
 from .reports import Choice, Complaint
 
 MOST_SHOWN = 40  # lines of a conversation, in place of hundreds
@@ -78,14 +78,15 @@ def test_late_mistake(
         only_complaint(checker, f"{WRONG}/late {first}", "--only", lesson, "--trials", trials)
         for trials in ("3", "0")
     )
-    assert (whole.left_out, whole.chosen, len(whole.lines)) == (0, (), first)
-    # up to forty commands are shown whole, and else the last game with the moves that were chosen
+    assert (whole.left_out, len(whole.lines)) == (0, first)
+    # up to forty commands are shown whole, and else the last game, with the moves that were chosen
     wanted = list(whole.lines) if is_whole else last_game(whole.lines)
     assert [*shown.lines] == wanted
     assert shown.left_out == len(whole.lines) - len(wanted)
     answers = right_answers(run_engine, whole.lines)
-    asked = [] if is_whole else [line for line in wanted[:-1] if " genmove " in line]
-    assert [*shown.chosen] == [Choice(line, answers[line]) for line in asked]
+    for block in (whole, shown):
+        asked = [line for line in block.lines[:-1] if " genmove " in line]
+        assert [*block.chosen] == [Choice(line, answers[line]) for line in asked]
     assert shown[2:4] == whole[2:4] and shown.wrote == whole.wrote
 
 
@@ -164,3 +165,35 @@ def test_output_is_the_same_except_for_the_number_of_commands(
     options = ["--seed", "5", "--restarts", "1", "--trials", "6", "--only", lesson]
     checks = [checker.check(engine, *options) for _ in range(2)]
     assert len({without_count(check.output) for check in checks}) == 1
+
+
+# ---- causes that are only possible, and what may be tried
+
+
+def test_a_colour_in_full_is_named_as_a_possible_cause(checker: Checker) -> None:
+    engine = f"{WRONG}/engine --bug colours_are_letters"
+    complaint = only_complaint(checker, engine, "--only", "start")
+    assert complaint.in_full
+    # the same with the letter isn't asked, so what is said to be right is that of any play
+    assert complaint.right.startswith("legal: ")
+
+
+@pytest.mark.parametrize(
+    "engine, lesson, hint",
+    [
+        (
+            f"{PYTHON} tests/engines/right/free allows_suicide",
+            "suicide",
+            "if its rules allow suicide: try --suicide unasked",
+        ),
+        (f"{WRONG}/beyond score_is_turned", "komi", "if it estimates scores: try --score unasked"),
+        (
+            f"{WRONG}/beyond undo_fails_at_once",
+            "start",
+            "if it never can: it has to answer known_command undo with false",
+        ),
+        (f"{WRONG}/engine --bug black_begins", "start", ""),
+    ],
+)
+def test_what_may_be_tried_is_said(engine: str, lesson: str, hint: str, checker: Checker) -> None:
+    assert only_complaint(checker, engine, "--only", lesson).hint == hint

@@ -1,7 +1,6 @@
 -- The text of a capture, by its parts.
-use Rattle.std.proofs.Common.{◌≡◌, ◌<◌, ℕ, List, [], ◌∷◌, ◌∙◌, length, take, arith, ap, sym, Bool, false, cond}
-use Rattle.std.specs.Prelude.{◌==◌, codes}
-use Rattle.std.proofs.lemmas.Bool.Decides.{nat_tests}
+use Rattle.std.proofs.Common.{◌≡◌, ℕ, List, [], ◌∷◌, ◌∙◌, length, take, ap}
+use Rattle.std.specs.Prelude.{codes}
 use Rattle.std.specs.List.{concat}
 use Rattle.go_base.specs.Int.{written_int}
 use Rattle.go_base.specs.Vertex.{written_vertices}
@@ -10,7 +9,6 @@ use Rattle.gtp_check_texts.specs.reasons.Plays.{captures_text, colour_name, more
 
 -- the parts that hang on the stones
 pub record AreParts (c : Colour) (points a b d e f : List ℕ) : Type 0 where
-  pub some : 0 < length points
   pub number : a ≡ written_int (length points)
   pub word : b ≡ stones_word (length points)
   pub name : d ≡ colour_name c
@@ -25,8 +23,6 @@ of_parts a b d e f = concat (codes "legal: it captures " ∷ a ∷ b ∷ d ∷ c
 pub captures-joined : (c : Colour) (points a b d e f : List ℕ) → AreParts c points a b d e f
     → concat (codes "legal: it captures " ∷ a ∷ b ∷ d ∷ codes ": " ∷ e ∷ f ∷ []) ≡ captures_text c points
 captures-joined c points a b d e f parts =
-    let some = parts.some in
-    let none : (length points == 0) ≡ false = grind (arith, nat_tests) in
     let number = written_int (length points) in
     let word = stones_word (length points) in
     let vertices = written_vertices (take most_named points) in
@@ -35,6 +31,3 @@ captures-joined c points a b d e f parts =
     ∙ ap (λ (t : List ℕ). of_parts number word t e f) parts.name
     ∙ ap (λ (t : List ℕ). of_parts number word (colour_name c) t f) parts.vertices
     ∙ ap (λ (t : List ℕ). of_parts number word (colour_name c) vertices t) parts.mark
-    ∙ ap (λ (b : Bool). cond b
-    (codes "legal: the point is empty, the stone's chain has a liberty then, and no ko forbids it")
-    (of_parts number word (colour_name c) vertices (more_mark (length points)))) (sym none)

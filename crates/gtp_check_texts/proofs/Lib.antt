@@ -4,3 +4,4 @@ pub mod Joining
 mod LinesOfTexts
 mod StonesOnBoards
 mod StonesTaken
+pub mod Earlier

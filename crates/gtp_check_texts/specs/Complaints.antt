@@ -13,8 +13,9 @@ use Rattle.gtp_process.specs.declared.starter.Ending.TheVariants.{Late}
 use Rattle.gtp_wire.specs.Replies.{most_shown}
 use Rattle.gtp_check_texts.specs.reasons.Kinds.{fault_text}
 use Rattle.gtp_check_judge.specs.declared.asking.CheckCommand.{CheckCommand}
-use Rattle.gtp_check_texts.specs.reasons.Answers.{before_rule, right_answer}
-use Rattle.gtp_check_texts.specs.reasons.Colours.{explained_after}
+use Rattle.gtp_check_texts.specs.reasons.Answers.{before_rule, id_due, right_answer}
+use Rattle.gtp_check_texts.specs.reasons.Colours.{spelling_line, with_letter}
+use Rattle.gtp_check_texts.specs.reasons.Hints.{hint_line}
 use Rattle.gtp_check_texts.specs.reasons.Rules.{rule_text}
 use Rattle.gtp_check_texts.specs.Board.{drawn_board}
 use Rattle.gtp_check_texts.specs.Texts.{text_if}
@@ -22,8 +23,8 @@ use Rattle.gtp_check_texts.specs.reasons.RunOn.{run_on_line, runs_on}
 use Rattle.gtp_check_texts.specs.reasons.Reasons.{reason}
 use Rattle.go_board.specs.Game.{GameRecord}
 use Rattle.gtp_check_talk.specs.declared.said.Said.{Said}
-use Rattle.gtp_check_texts.specs.Conversation.{after_lines, asked_line, before_lines, faulty_line}
-use Rattle.gtp_check_texts.specs.LastGame.{last_game_lines}
+use Rattle.gtp_check_texts.specs.Conversation.{after_lines, asked_line, faulty_line}
+use Rattle.gtp_check_texts.specs.LastGame.{last_game_lines, whole_lines}
 use Rattle.gtp_check_texts.specs.reasons.Reasons.{in_a_row_line}
 use Rattle.gtp_check_texts.specs.declared.complaint.Complaint.{Complaint}
 use Rattle.gtp_check_texts.specs.declared.last_game.Shown.{Shown}
@@ -73,12 +74,9 @@ wrote_line bytes = concat (codes "# it wrote: " ∷ quoted (take most_shown byte
 abbrev pub faulty_said : Complaint → Option Said
 faulty_said complaint = slice_get complaint.talk.now complaint.answered
 
--- The command for which it is said what is right, if there is one: the faulty one, or the same with the colour's letter
--- where the engine took the colour in full before.
+-- The command for which it is said what is right, if there is one: the faulty one, with the colour's letter.
 abbrev pub explained : Complaint → Option CheckCommand
-explained complaint =
-    option_map (λ said. explained_after (take complaint.answered complaint.talk.now) said.command)
-    (faulty_said complaint)
+explained complaint = option_map (λ said. with_letter said.command) (faulty_said complaint)
 
 -- What is right: of a reply without an end how it ends, and else what decides on the board before the command, where
 -- that is known and something was written, or the rule.
@@ -101,12 +99,30 @@ abbrev pub in_a_row : Option (Bor GameRecord) → Fault → Option CheckCommand 
 in_a_row (Some game) (Wrote kind) (Some command) = in_a_row_line game.now command kind
 in_a_row _ _ _ = []
 
--- what is right, and a line more on the colour of a move
+-- what was asked and answered rightly before the faulty command
+abbrev pub said_before : Complaint → List Said
+said_before complaint = take complaint.answered complaint.talk.now
+
+-- that the colour in full may be the cause, of a command that was refused
+abbrev pub spelling : List Said → Fault → Option Said → List ℕ
+spelling before (Wrote kind) (Some said) = spelling_line before said.command kind
+spelling before fault said = []
+
+-- the id that is due, where another one came: that of the faulty command
+abbrev pub due_id : Complaint → List ℕ
+due_id complaint = id_due complaint.fault (faulty_line complaint)
+
+-- the end of that line, and further lines on the colour of a move
+abbrev pub rule_end : Complaint → List ℕ
+rule_end complaint =
+    due_id complaint ++ (codes "\n" ++ (in_a_row complaint.game complaint.fault (explained complaint)
+    ++ spelling (said_before complaint) complaint.fault (faulty_said complaint)))
+
+-- what is right, and further lines on the colour of a move
 abbrev pub rule_line : Complaint → List ℕ
 rule_line complaint =
     codes "# right: " ++ (before_rule (answer_of complaint)
-    ++ (rule_of complaint (is_within complaint.fault complaint.wrote.now)
-    ++ (codes "\n" ++ in_a_row complaint.game complaint.fault (explained complaint))))
+    ++ (rule_of complaint (is_within complaint.fault complaint.wrote.now) ++ rule_end complaint))
 
 -- the board before the command, where it is known
 abbrev pub board_lines : Option (Bor GameRecord) → List ℕ
@@ -129,13 +145,13 @@ abbrev pub may_run_on : Complaint → Bool
 may_run_on complaint =
     runs_on complaint.fault complaint.answered (length complaint.talk.now) complaint.wrote.now
 
--- that the refusal is right under the other ko rule
-abbrev pub ko_line : Bool → List ℕ
-ko_line is_so = text_if is_so (codes "# under positional ko the refusal is right: try --ko positional\n")
+-- what to try
+abbrev pub hint_of : Complaint → List ℕ
+hint_of complaint = hint_line complaint.is_positional complaint.fault (explained complaint)
 
 -- the lines before the command, or of these the last game alone
 abbrev pub shown_before : Complaint → Shown → List ℕ
-shown_before complaint Whole = before_lines complaint
+shown_before complaint Whole = whole_lines complaint
 shown_before complaint LastGame = last_game_lines complaint
 
 -- what the engine was asked: the lines before the command, the board, the command, and that it came in chunks
@@ -145,8 +161,8 @@ asked_lines complaint =
     ++ (board_lines complaint.game ++ (asked_line complaint ++ pieces_line (faulty_said complaint)))
 
 -- The block of a complaint: its head, what the engine was asked, what it wrote then, what is right, a hint of how answers
--- end, what was on its way, a hint of the ko rule, and an empty line.
+-- end, what was on its way, what to try, and an empty line.
 abbrev pub complaint_lines : Complaint → List ℕ
 complaint_lines complaint = concat (
     head_line complaint ∷ asked_lines complaint ∷ wrote_line complaint.wrote.now ∷ rule_line complaint ∷
-    run_on_line (may_run_on complaint) ∷ ahead_lines (after_lines complaint) ∷ ko_line complaint.is_positional ∷ codes "\n" ∷ [])
+    run_on_line (may_run_on complaint) ∷ ahead_lines (after_lines complaint) ∷ hint_of complaint ∷ codes "\n" ∷ [])

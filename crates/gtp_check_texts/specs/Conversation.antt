@@ -25,10 +25,6 @@ line_of complaint number = drop (line_start complaint number) (lines_to complain
 
 -- ---- round the faulty command: the first one that wasn't answered before
 
--- the lines before it
-abbrev pub before_lines : Complaint → List ℕ
-before_lines complaint = take (line_start complaint complaint.answered) (lines_to complaint complaint.answered)
-
 -- its line
 abbrev pub asked_line : Complaint → List ℕ
 asked_line complaint = line_of complaint complaint.answered

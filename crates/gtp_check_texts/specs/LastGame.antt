@@ -1,6 +1,7 @@
--- The last game of a conversation, where a complaint shows it alone. (Own.)
+-- The lines of a conversation that a complaint shows: of its last game alone, or all. (Own.)
 use Rattle.std.specs.Prelude.{ℕ, ◌+◌, ◌==◌, Bool, true, false, if◌then◌else◌, List, [], ◌∷◌, ◌++◌, codes, filter, slice_get}
 use Rattle.std.specs.Prelude.{take, Option, None, Some}
+use Rattle.std.specs.Borrow.{Bor}
 use Rattle.std.specs.Fmt.{decimal}
 use Rattle.std.specs.List.{concat, flat_map, range_with_len}
 use Rattle.go_base.specs.Vertex.{written_vertex}
@@ -50,10 +51,19 @@ left_out_line count =
     codes "# earlier lines left out: " ∷ decimal count ∷
     codes " (--trials 0 shows them); this block alone may not show the mistake\n" ∷ [])
 
--- the lines before the faulty command that are shown with this game
-abbrev pub game_lines : Complaint → LastGame → List ℕ
-game_lines complaint game =
-    flat_map (answered_lines complaint) (filter (shows game) (range_with_len 0 complaint.answered))
+-- the lines before the faulty command whose number is one of these
+abbrev pub lines_where : (ℕ → Bool) → Complaint → List ℕ
+lines_where is_shown complaint =
+    flat_map (answered_lines complaint) (filter is_shown (range_with_len 0 complaint.answered))
+
+-- all of them
+abbrev pub whole_lines : Complaint → List ℕ
+whole_lines complaint = lines_where (λ number. true) complaint
+
+-- which of them are shown: those of a last game, or all
+abbrev pub shows_in : Option (Bor LastGame) → ℕ → Bool
+shows_in None = λ number. true
+shows_in (Some game) = shows game.now
 
 -- the last game of what was asked up to the faulty command
 abbrev pub game_of : Complaint → LastGame
@@ -62,4 +72,4 @@ game_of complaint = last_game (take (complaint.answered + 1) complaint.talk.now)
 -- its lines before that command
 abbrev pub last_game_lines : Complaint → List ℕ
 last_game_lines complaint =
-    left_out_line (left_out (game_of complaint)) ++ game_lines complaint (game_of complaint)
+    left_out_line (left_out (game_of complaint)) ++ lines_where (shows (game_of complaint)) complaint

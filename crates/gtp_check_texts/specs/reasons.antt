@@ -1,5 +1,7 @@
 pub mod Answers
 pub mod Colours
+pub mod Hints
+pub mod History
 pub mod Illegal
 pub mod Kinds
 pub mod Plays

@@ -9,18 +9,19 @@ ghost use Rattle.gtp_check_texts.specs.Complaints.{in_a_row};
 ghost use Rattle.gtp_check_texts.specs.reasons.Answers.{before_rule};
 ghost use Rattle.gtp_check_texts.specs.Complaints.{ahead_lines, answer_of, asked_lines, board_lines};
 ghost use Rattle.gtp_check_texts.specs.Complaints.{complaint_lines, ended_text, faulty_said, head_line, is_within};
-ghost use Rattle.gtp_check_texts.specs.Complaints.{ko_line, may_run_on, pieces_line, rule_line, rule_of};
-ghost use Rattle.gtp_check_texts.specs.Complaints.{shown_before, explained, within_text, wrong_text, wrote_line};
-ghost use Rattle.gtp_check_texts.specs.Conversation.{after_lines, asked_line, before_lines, faulty_line, line_end};
+ghost use Rattle.gtp_check_texts.specs.Complaints.{hint_of, may_run_on, pieces_line, rule_end, rule_line, rule_of};
+ghost use Rattle.gtp_check_texts.specs.Complaints.{said_before, shown_before, spelling, explained, within_text};
+ghost use Rattle.gtp_check_texts.specs.Complaints.{wrong_text, wrote_line};
+ghost use Rattle.gtp_check_texts.specs.Conversation.{after_lines, asked_line, faulty_line, line_end};
 ghost use Rattle.gtp_check_texts.specs.Conversation.{line_of, line_start, lines_to};
 ghost use Rattle.gtp_check_texts.specs.reasons.Rules.{rule_text};
 ghost use Rattle.gtp_check_texts.specs.reasons.RunOn.{run_on_line};
 
 use crate::board::add_board;
-use crate::last_game::{Shown, add_last_game};
+use crate::last_game::{Shown, add_last_game, add_lines};
 use crate::reasons::{
-    ANSWER_ROOM, add_reason, explained_after, fault_text, in_a_row_line, right_answer, rule_text,
-    runs_on,
+    ANSWER_ROOM, add_id_due, add_reason, fault_text, hint_line, in_a_row_line, right_answer,
+    rule_text, runs_on, spelling_line, with_letter,
 };
 use crate::texts::{add_all, text_if};
 use arrayvec::ArrayVec;
@@ -78,7 +79,7 @@ pub fn complaint_text(alloc: Global, complaint: &Complaint<'_>) -> Result<Vec<u8
     add_rule(&mut text, complaint)?;
     add_run_on(&mut text, complaint)?;
     add_ahead(&mut text, complaint.after_lines())?;
-    add_ko(&mut text, complaint.is_positional)?;
+    text.extend_from_slice(complaint.hint())?;
     text.extend_from_slice(b"\n")?;
     Ok(text)
 }
@@ -118,13 +119,6 @@ impl<'t> Complaint<'t> {
         let lines = self.lines_to(number);
         let start = self.line_start(number);
         &lines[start.min(lines.len())..]
-    }
-
-    /// Returns the lines before the faulty command.
-    fn before_lines(&self) -> &'t [u8]
-        ensures { result.now ≡ before_lines self.now }
-    {
-        front(self.lines_to(self.answered), self.line_start(self.answered))
     }
 
     /// Returns the line of the faulty command as it was sent.
@@ -210,8 +204,33 @@ impl<'t> Complaint<'t> {
         ensures { result ≡ explained self.now }
     {
         let said = self.talk.get(self.answered)?;
-        let before = &self.talk[..self.answered.min(self.talk.len())];
-        Some(explained_after(before, said.command))
+        Some(with_letter(said.command))
+    }
+
+    /// Returns what was asked and answered correctly before the faulty command.
+    fn said_before(&self) -> &'t [Said]
+        ensures { result.now ≡ said_before self.now }
+    {
+        &self.talk[..self.answered.min(self.talk.len())]
+    }
+
+    /// Returns the note that the colour in full may be the cause, if such a command was refused.
+    fn spelling(&self) -> &'static [u8]
+        ensures { result.now ≡ spelling (said_before self.now) self.now.fault (faulty_said self.now) }
+    {
+        match (self.fault, self.talk.get(self.answered)) {
+            (Fault::Wrote(kind), Some(said)) => {
+                spelling_line(self.said_before(), &said.command, kind)
+            }
+            _ => b"",
+        }
+    }
+
+    /// Returns the line that says what to try, if there is one.
+    fn hint(&self) -> &'static [u8]
+        ensures { result.now ≡ hint_of self.now }
+    {
+        hint_line(self.is_positional, self.fault, self.explained())
     }
 
     /// Returns what a correct engine answers, if that is shown.
@@ -358,7 +377,7 @@ fn add_before(
         ≡ text.old.items ++ shown_before complaint.now complaint.now.shown) }
 {
     match complaint.shown {
-        Shown::Whole => text.extend_from_slice(complaint.before_lines()),
+        Shown::Whole => add_lines(text, complaint, None),
         Shown::LastGame => add_last_game(alloc, text, complaint),
     }
 }
@@ -373,15 +392,24 @@ fn add_board_if(text: &mut Vec<u8>, game: Option<&Game>) -> Result<(), AllocErro
     }
 }
 
-/// Appends the line that says what is right, and another one about the colour of a move if there is one.
+/// Appends the line that says what is right, and further ones about the colour of a move if there are any.
 fn add_rule(text: &mut Vec<u8>, complaint: &Complaint<'_>) -> Result<(), AllocError>
     ensures { OnOk result (text.new.items ≡ text.old.items ++ rule_line complaint.now) }
 {
     text.extend_from_slice(b"# right: ")?;
     add_answer(text, &complaint.answer())?;
     add_decided(text, complaint)?;
+    add_rule_end(text, complaint)
+}
+
+/// Appends the end of that line, and further ones about the colour of a move if there are any.
+fn add_rule_end(text: &mut Vec<u8>, complaint: &Complaint<'_>) -> Result<(), AllocError>
+    ensures { OnOk result (text.new.items ≡ text.old.items ++ rule_end complaint.now) }
+{
+    add_id_due(text, complaint.fault, complaint.faulty_line())?;
     text.extend_from_slice(b"\n")?;
-    text.extend_from_slice(complaint.in_a_row())
+    text.extend_from_slice(complaint.in_a_row())?;
+    text.extend_from_slice(complaint.spelling())
 }
 
 /// Appends what is right, without the answer itself.
@@ -427,14 +455,4 @@ fn add_ahead(text: &mut Vec<u8>, lines: &[u8]) -> Result<(), AllocError>
 {
     text.extend_from_slice(text_if(!lines.is_empty(), b"# asked before this answer was read:\n"))?;
     text.extend_from_slice(lines)
-}
-
-/// Appends the line about the other ko rule, if that explains the refusal.
-fn add_ko(text: &mut Vec<u8>, is_positional: bool) -> Result<(), AllocError>
-    ensures { OnOk result (text.new.items ≡ text.old.items ++ ko_line is_positional) }
-{
-    text.extend_from_slice(text_if(
-        is_positional,
-        b"# under positional ko the refusal is right: try --ko positional\n",
-    ))
 }

@@ -1,7 +1,7 @@
-//! The last game of a conversation, if a complaint shows only that.
+//! The lines of a conversation that a complaint shows: all, or those of its last game.
 ghost use Rattle.std.specs.Prelude.{◌≡◌, ◌<◌, ◌++◌, OnOk};
-ghost use Rattle.gtp_check_texts.specs.LastGame.{answered_lines, choice_at, choice_line, chosen_line, game_lines, is_genmove};
-ghost use Rattle.gtp_check_texts.specs.LastGame.{last_game_lines, left_out_line};
+ghost use Rattle.gtp_check_texts.specs.LastGame.{answered_lines, choice_at, choice_line, chosen_line, is_genmove};
+ghost use Rattle.gtp_check_texts.specs.LastGame.{last_game_lines, left_out_line, lines_where, shows_in};
 
 use crate::complaint::Complaint;
 use crate::texts::add_all;
@@ -15,14 +15,14 @@ use std::alloc::{AllocError, Global};
 /// How much of a conversation a complaint shows.
 #[derive(Clone, Copy, Debug, PartialEq, Eq)]
 pub enum Shown {
-    /// All of it.
+    /// All of it, with what the engine chose.
     Whole,
     /// Its last game alone, with what the engine chose.
     LastGame,
 }
 
 /// Appends the lines of the last game before the faulty command, after the number of earlier ones that are left out.
-/// First come the lines that set what is in force when it begins. After each `genmove` comes what the engine chose.
+/// First come the lines that set what is in force when it begins.
 pub(crate) fn add_last_game(
     alloc: Global,
     text: &mut Vec<u8>,
@@ -32,7 +32,7 @@ pub(crate) fn add_last_game(
 {
     let game = last_game(complaint.asked());
     add_left_out(alloc, text, game.left_out())?;
-    add_game(text, complaint, &game)?;
+    add_lines(text, complaint, Some(&game))?;
     Ok(())
 }
 
@@ -54,20 +54,32 @@ fn add_left_out(alloc: Global, text: &mut Vec<u8>, count: usize) -> Result<(), A
     )
 }
 
-/// Appends the lines before the faulty command that are shown with this game.
-fn add_game(
+/// Appends the lines before the faulty command that are shown with this game, or all without one. After each `genmove`
+/// comes what the engine chose.
+pub(crate) fn add_lines(
     text: &mut Vec<u8>,
     complaint: &Complaint<'_>,
-    game: &LastGame,
+    game: Option<&LastGame>,
 ) -> Result<(), AllocError>
-    ensures { OnOk result (text.new.items ≡ text.old.items ++ game_lines complaint.now game.now) }
+    ensures { OnOk result (text.new.items
+        ≡ text.old.items ++ lines_where (shows_in game.entry) complaint.now) }
 {
     for number in 0..complaint.answered {
-        if game.shows(number) {
+        if shows_in(game, number) {
             add_answered(text, complaint, number)?;
         }
     }
     Ok(())
+}
+
+/// Returns whether the line of this number is shown with a game; without one each is.
+fn shows_in(game: Option<&LastGame>, number: usize) -> bool
+    ensures { result ≡ shows_in game.entry number }
+{
+    match game {
+        Some(game) => game.shows(number),
+        None => true,
+    }
 }
 
 /// Appends the line of a command that was answered, and what the engine chose.

@@ -1,11 +1,14 @@
 //! Sentences that say what is wrong with an engine, what is right, and what on the board decides it.
 ghost use Rattle.std.specs.Prelude.{◌≡◌, ◌∷◌, [], ◌++◌, OnOk};
-ghost use Rattle.gtp_check_texts.specs.reasons.Reasons.{chosen_by, colour_letter, move_of, reason, refused_match};
+ghost use Rattle.gtp_check_texts.specs.reasons.History.{colour_letter};
+ghost use Rattle.gtp_check_texts.specs.reasons.Reasons.{chosen_by, move_of, reason, refused_match};
 ghost use Rattle.gtp_check_texts.specs.reasons.Reasons.{refused_text, undo_text};
 ghost use Rattle.gtp_check_texts.specs.reasons.Reasons.{are_of_one_colour, in_a_row_line};
 
 mod answers;
 mod colours;
+mod hints;
+mod history;
 mod illegal;
 mod kinds;
 mod plays;
@@ -14,19 +17,21 @@ mod run_on;
 mod sentences;
 
 use crate::texts::{add_all, text_if};
-pub use answers::{ANSWER_ROOM, right_answer};
-pub use colours::explained_after;
+pub use answers::{ANSWER_ROOM, add_id_due, right_answer};
 use colours::is_same;
+pub use colours::{spelling_line, with_letter};
 use go_base::{Colour, Move, Vertex};
 use go_board::Game;
 use gtp_check_judge::{Cause, CheckCommand, Kind};
 use gtp_wire::Command;
-use illegal::{add_illegal, last_move};
+pub use hints::hint_line;
+use history::last_move;
+use illegal::add_illegal;
 pub use kinds::fault_text;
 use plays::add_legal;
 pub use rules::rule_text;
 pub use run_on::runs_on;
-use sentences::{command_sentence, kind_sentence, no_move_sentence, other_sentence};
+use sentences::{command_sentence, kind_sentence, other_sentence};
 use std::alloc::AllocError;
 
 /// Appends why a reply is wrong, in one line without a newline.
@@ -54,7 +59,6 @@ pub fn add_reason(
             add_illegal(text, game, move_of(command, chosen), fault)
         }
         Kind::Unlawful(fault) => add_illegal(text, game, move_of(command, chosen), fault),
-        Kind::NoMove => text.extend_from_slice(no_move_sentence(command)),
         _ => text.extend_from_slice(kind_sentence(kind)),
     }
 }

@@ -1,11 +1,13 @@
 -- What a right engine answers: the points of a handicap. (Own.)
 use Rattle.std.specs.Prelude.{ℕ, List, [], ◌∷◌, ◌++◌, codes, Option, if◌then◌else◌}
+use Rattle.std.specs.Char.{is_ascii_digit}
 use Rattle.std.specs.Option.{option_map_or}
 use Rattle.go_base.specs.Decide.{allows?, holds}
 use Rattle.go_base.specs.Handicap.{handicap_points}
 use Rattle.gtp_check_judge.specs.declared.asking.CheckCommand.{CheckCommand}
 use Rattle.gtp_check_judge.specs.declared.asking.CheckCommand.TheVariants.{Match}
 use Rattle.gtp_check_judge.specs.declared.judging.Kind.TheVariants as kind
+use Rattle.go_base.specs.Text.{front_while}
 use Rattle.go_base.specs.Vertex.{written_vertices}
 use Rattle.gtp_wire.specs.declared.commands.Command.TheVariants.{FixedHandicap}
 use Rattle.gtp_check_talk.specs.declared.fault.Fault.{Fault}
@@ -30,6 +32,11 @@ right_points said = option_map_or (λ one. points_of one.command one.size) said 
 abbrev pub right_answer : Fault → Option Said → List ℕ
 right_answer (Wrote kind.OtherPoints) said = right_points said
 right_answer _ said = []
+
+-- that the id of this line is due, where another one came
+abbrev pub id_due : Fault → List ℕ → List ℕ
+id_due (Wrote kind.WrongId) line = codes ": " ++ front_while is_ascii_digit line
+id_due fault line = []
 
 -- it comes before the rule
 abbrev pub before_rule : List ℕ → List ℕ

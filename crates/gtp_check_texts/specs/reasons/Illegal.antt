@@ -17,6 +17,7 @@ use Rattle.go_board.specs.declared.faults.PlayFault.{PlayFault}
 use Rattle.go_board.specs.declared.faults.PlayFault.TheVariants.{Full, OffBoard, Occupied, Suicide, Ko}
 use Rattle.go_board.specs.declared.rules.KoRule.{KoRule}
 use Rattle.go_board.specs.declared.rules.KoRule.TheVariants.{Simple, Positional}
+use Rattle.gtp_check_texts.specs.reasons.History.{last_vertex}
 use Rattle.gtp_check_texts.specs.reasons.Plays.{taken_by}
 
 -- ---- a point off the board, or with a stone
@@ -63,14 +64,6 @@ suicide_text (Some stones) =
     else codes "suicide: the stone would have no liberty"
 
 -- ---- ko
-
--- the last move of a game
-abbrev pub last_move : GameRecord → Option Move
-last_move game = slice_get game.moves (length game.moves - 1)
-
--- the vertex of the last move of a game
-abbrev pub last_vertex : GameRecord → Option Vertex
-last_vertex game = option_map (λ move. move.vertex) (last_move game)
 
 -- that the board would be as before the last move, which had this vertex
 abbrev pub taker_text : Vertex → List ℕ

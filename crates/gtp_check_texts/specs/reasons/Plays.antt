@@ -1,5 +1,5 @@
 -- Why a move is legal, in words: what it takes. (Own.)
-use Rattle.std.specs.Prelude.{ℕ, ◌==◌, ◌&&◌, nat_lt, List, [], ◌∷◌, length, take, filter, codes, slice_set}
+use Rattle.std.specs.Prelude.{ℕ, ◌==◌, ◌&&◌, nat_lt, List, [], ◌∷◌, ◌++◌, length, take, filter, codes, slice_set}
 use Rattle.std.specs.Prelude.{Option, Some, None, Bool, if◌then◌else◌}
 use Rattle.std.specs.List.{range_with_len, concat}
 use Rattle.go_base.specs.Colour.{other}
@@ -16,6 +16,8 @@ use Rattle.go_board.specs.Game.{GameRecord, board_of, most_moves}
 use Rattle.go_board.specs.Play.{is_captured}
 use Rattle.go_board.specs.declared.board.Cell.{Cell}
 use Rattle.go_board.specs.decisions.Game.{legal?}
+use Rattle.gtp_check_texts.specs.Texts.{text_if}
+use Rattle.gtp_check_texts.specs.reasons.History.{emptied_by, emptied_text, is_lifted}
 
 -- whether the move is legal and the record has room for it
 abbrev pub may_make : GameRecord → Move → Bool
@@ -49,24 +51,41 @@ most_named = 6
 abbrev pub more_mark : ℕ → List ℕ
 more_mark many = if nat_lt most_named many then codes " .." else []
 
--- why a play is legal that takes the stones of this colour on these points
+-- why a play is legal that takes nothing, on a point whose last stone this move took, if one did
+abbrev pub quiet_text : Option Move → List ℕ
+quiet_text taker = concat (
+    codes "legal: the point is empty" ∷ emptied_text taker ∷
+    codes ", the stone's chain has a liberty then, and no ko forbids it" ∷ [])
+
+-- that a play takes the stones of this colour on these points
 abbrev pub captures_text : Colour → List ℕ → List ℕ
-captures_text c points =
-    if length points == 0
-    then codes "legal: the point is empty, the stone's chain has a liberty then, and no ko forbids it"
-    else concat (
+captures_text c points = concat (
     codes "legal: it captures " ∷ written_int (length points) ∷ stones_word (length points) ∷ colour_name c ∷
     codes ": " ∷ written_vertices (take most_named points) ∷ more_mark (length points) ∷ [])
 
+-- why a play with this vertex is legal that takes these stones of a colour, if any
+abbrev pub taking_text : GameRecord → Colour → Vertex → List ℕ → List ℕ
+taking_text game c v points =
+    if length points == 0 then quiet_text (emptied_by game v) else captures_text c points
+
 -- why a play is legal, by what it takes where it may be made
-abbrev pub play_text : Colour → Option (List ℕ) → List ℕ
-play_text c None = codes "the command succeeds"
-play_text c (Some points) = captures_text c points
+abbrev pub play_text : GameRecord → Colour → Vertex → Option (List ℕ) → List ℕ
+play_text game c v None = codes "the command succeeds"
+play_text game c v (Some points) = taking_text game c v points
+
+-- that a pass lifted the ko
+abbrev pub lifted_text : Bool → List ℕ
+lifted_text is_so = text_if is_so (codes "; the pass before it lifts the ko")
+
+-- why a play is legal, and whether a pass lifted a ko
+abbrev pub at_text : GameRecord → Move → List ℕ
+at_text game move =
+    play_text game (other move.colour) move.vertex (taken_by game move) ++ lifted_text (is_lifted game move)
 
 -- why a move with this vertex is legal
 abbrev pub vertex_text : GameRecord → Move → Vertex → List ℕ
 vertex_text game move Pass = codes "legal: a pass always is"
-vertex_text game move (At p) = play_text (other move.colour) (taken_by game move)
+vertex_text game move (At p) = at_text game move
 
 -- why a move is legal
 abbrev pub legal_text : GameRecord → Move → List ℕ

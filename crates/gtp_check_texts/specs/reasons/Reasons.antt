@@ -16,16 +16,12 @@ use Rattle.gtp_check_judge.specs.declared.judging.Kind.TheVariants as kind
 use Rattle.gtp_wire.specs.declared.commands.Command.{Command}
 use Rattle.gtp_wire.specs.declared.commands.Command.TheVariants.{Genmove, Play, Undo}
 use Rattle.gtp_check_texts.specs.Texts.{text_if}
-use Rattle.gtp_check_texts.specs.reasons.Illegal.{illegal_text, last_move}
+use Rattle.gtp_check_texts.specs.reasons.History.{colour_letter, last_move}
+use Rattle.gtp_check_texts.specs.reasons.Illegal.{illegal_text}
 use Rattle.gtp_check_texts.specs.reasons.Plays.{legal_text}
-use Rattle.gtp_check_texts.specs.reasons.Sentences.{command_sentence, kind_sentence, no_move_sentence, other_sentence}
+use Rattle.gtp_check_texts.specs.reasons.Sentences.{command_sentence, kind_sentence, other_sentence}
 
 -- ---- a refusal of what a right engine does
-
--- the capital letter of a colour
-abbrev pub colour_letter : Colour → List ℕ
-colour_letter Black = codes "B"
-colour_letter White = codes "W"
 
 -- that there is a move to take back: the last one
 abbrev pub undo_text : Option Move → List ℕ
@@ -67,7 +63,6 @@ abbrev pub reason : GameRecord → CheckCommand → Kind → Option Vertex → L
 reason game command kind.Refused chosen = refused_text game command
 reason game command (kind.Took (BadMove fault)) chosen = illegal_text game (move_of command chosen) fault
 reason game command (kind.Unlawful fault) chosen = illegal_text game (move_of command chosen) fault
-reason game command kind.NoMove chosen = no_move_sentence command
 reason game command other chosen = kind_sentence other
 
 -- ---- moves of one colour in a row

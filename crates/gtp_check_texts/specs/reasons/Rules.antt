@@ -4,21 +4,16 @@ use Rattle.gtp_process.specs.declared.starter.Ending.{Ending}
 use Rattle.gtp_process.specs.declared.starter.Ending.TheVariants as ended
 use Rattle.gtp_check_judge.specs.declared.asking.CheckCommand.{CheckCommand}
 use Rattle.gtp_check_judge.specs.declared.asking.CheckCommand.TheVariants.{Match}
-use Rattle.gtp_check_judge.specs.declared.judging.Kind.TheVariants.{NoMove, Refused}
+use Rattle.gtp_check_judge.specs.declared.judging.Kind.TheVariants.{Refused}
 use Rattle.gtp_check_talk.specs.declared.fault.Fault.{Fault}
 use Rattle.gtp_check_talk.specs.declared.fault.Fault.TheVariants.{Wrote, CutOff}
-use Rattle.gtp_check_texts.specs.reasons.Sentences.{command_sentence, kind_sentence, no_move_sentence, other_sentence}
+use Rattle.gtp_check_texts.specs.reasons.Sentences.{command_sentence, kind_sentence, other_sentence}
 
 -- why a right engine takes a command
 abbrev pub refused_rule : Option CheckCommand → List ℕ
 refused_rule (Some (Match command)) = command_sentence command
 refused_rule (Some other) = other_sentence other
 refused_rule None = codes "the command succeeds"
-
--- why a right engine answers a `genmove` by a success
-abbrev pub no_move_rule : Option CheckCommand → List ℕ
-no_move_rule (Some command) = no_move_sentence command
-no_move_rule None = kind_sentence NoMove
 
 -- the status by which a program with a limit of time ends an engine that is late
 abbrev pub late : ℕ
@@ -37,5 +32,4 @@ lost_rule _ = codes "an engine answers each command, and reads on until quit"
 abbrev pub rule_text : Fault → Ending → Option CheckCommand → List ℕ
 rule_text (CutOff cause) ending command = lost_rule ending
 rule_text (Wrote Refused) ending command = refused_rule command
-rule_text (Wrote NoMove) ending command = no_move_rule command
 rule_text (Wrote kind) ending command = kind_sentence kind

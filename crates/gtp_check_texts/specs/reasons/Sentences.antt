@@ -2,8 +2,7 @@
 use Rattle.std.specs.Prelude.{ℕ, List, codes}
 use Rattle.go_board.specs.declared.faults.HandicapFault.TheVariants.{NotEmpty, BadNumber}
 use Rattle.gtp_check_judge.specs.declared.asking.CheckCommand.{CheckCommand}
-use Rattle.gtp_check_judge.specs.declared.asking.CheckCommand.TheVariants.{PlayInFull, GenmoveInFull, ListCommands}
-use Rattle.gtp_check_judge.specs.declared.asking.CheckCommand.TheVariants.{Required}
+use Rattle.gtp_check_judge.specs.declared.asking.CheckCommand.TheVariants.{ListCommands, Required}
 use Rattle.gtp_check_judge.specs.declared.asking.FaultyCommand.{FaultyCommand}
 use Rattle.gtp_check_judge.specs.declared.asking.FaultyCommand.TheVariants as faulty
 use Rattle.gtp_check_judge.specs.declared.dues.Cause.{Cause}
@@ -21,11 +20,8 @@ command_sentence (Komi komi) = codes "a komi that floats of 32 bits have exactly
 command_sentence ClearBoard = codes "a board can be cleared at any time"
 command_sentence _ = codes "the command succeeds"
 
--- Why a right engine takes a command that isn't one of a match. (The standard: a colour is one of white, w, black and b;
--- and it requires `list_commands` of every engine.)
+-- Why a right engine takes a command that isn't one of a match. (The standard requires `list_commands` of every engine.)
 abbrev pub other_sentence : CheckCommand → List ℕ
-other_sentence (PlayInFull move) = codes "a colour may be written in full: black for b, and white for w"
-other_sentence (GenmoveInFull colour) = codes "a colour may be written in full: black for b, and white for w"
 other_sentence ListCommands = codes "each engine has list_commands"
 other_sentence (Required required) = codes "each engine has this command, and it never fails"
 other_sentence _ = codes "the command succeeds"
@@ -66,8 +62,3 @@ kind_sentence kind.Unasked = codes "each command has one reply"
 kind_sentence kind.NoStatus = codes "a reply begins with = or ?, and ends with two newlines"
 kind_sentence kind.Overlong =
     codes "two newlines end a reply, within 8,192 bytes: twogtp and this check read no more, though the standard sets no limit"
-
--- why a right engine answers a `genmove` by a success: it reads the colour, and has always a move or resigns
-abbrev pub no_move_sentence : CheckCommand → List ℕ
-no_move_sentence (GenmoveInFull colour) = other_sentence (GenmoveInFull colour)
-no_move_sentence _ = kind_sentence kind.NoMove

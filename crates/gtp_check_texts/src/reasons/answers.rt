@@ -1,12 +1,14 @@
 //! What a correct engine answers, if that depends on what was asked before.
-ghost use Rattle.std.specs.Prelude.{◌≡◌};
-ghost use Rattle.gtp_check_texts.specs.reasons.Answers.{points_of, right_answer, right_points, stones_on};
+ghost use Rattle.std.specs.Prelude.{◌≡◌, ◌++◌, OnOk};
+ghost use Rattle.gtp_check_texts.specs.reasons.Answers.{id_due, points_of, right_answer, right_points, stones_on};
 
+use crate::texts::add_all;
 use arrayvec::ArrayVec;
-use go_base::{Size, VERTICES_ROOM, handicap, write_vertices};
+use go_base::{Size, VERTICES_ROOM, handicap, split_digits, write_vertices};
 use gtp_check_judge::{CheckCommand, Kind};
 use gtp_check_talk::{Fault, Said};
 use gtp_wire::Command;
+use std::alloc::AllocError;
 
 /// The buffer size for an answer: the vertices of a handicap.
 pub const ANSWER_ROOM: usize = VERTICES_ROOM;
@@ -51,5 +53,15 @@ fn stones_on(stones: u32, size: Size) -> Answer
     match handicap(size, stones) {
         Some(points) => write_vertices(&points),
         None => ArrayVec::new(),
+    }
+}
+
+/// Appends that the id of this line is due, if another one came.
+pub fn add_id_due(text: &mut Vec<u8>, fault: Fault, line: &[u8]) -> Result<(), AllocError>
+    ensures { OnOk result (text.new.items ≡ text.old.items ++ id_due fault line.now) }
+{
+    match fault {
+        Fault::Wrote(Kind::WrongId) => add_all(text, &[b": ", split_digits(line).0]),
+        _ => Ok(()),
     }
 }

@@ -1,24 +1,46 @@
-//! Whether the colour that is written in full made the difference.
+//! Whether the colour that is written in full may make the difference.
 ghost use Rattle.std.specs.Prelude.{◌≡◌};
 ghost use Rattle.std.specs.List.{list_any};
 ghost use Rattle.go_board.specs.Taken.{same_colour};
-ghost use Rattle.gtp_check_texts.specs.reasons.Colours.{is_spelled_alike, shows_spelling, explained_after, with_letter};
+ghost use Rattle.gtp_check_texts.specs.reasons.Colours.{is_in_full, is_spelled_alike, may_be_spelling, shows_spelling};
+ghost use Rattle.gtp_check_texts.specs.reasons.Colours.{spelling_line, with_letter};
 
+use crate::texts::text_if;
 use go_base::Colour;
-use gtp_check_judge::CheckCommand;
+use gtp_check_judge::{CheckCommand, Kind};
 use gtp_check_talk::Said;
 use gtp_wire::Command;
 
-/// Returns the command to explain, after these were answered correctly: the one that was asked, but with the colour's
-/// letter if one of these shows that the engine reads the colour in full.
-pub fn explained_after(before: &[Said], command: CheckCommand) -> CheckCommand
-    ensures { result ≡ explained_after before.now command }
+/// The note on a command whose colour is written in full, which may be the cause.
+const SPELLING: &[u8] =
+    b"# if it takes the same with b or w, this is the cause: a colour may be written in full, black or white\n";
+
+/// Returns the note that the colour in full may be the cause, if such a command was refused after these were answered
+/// correctly, and none of them shows that the engine reads the colour in full.
+pub fn spelling_line(before: &[Said], command: &CheckCommand, kind: Kind) -> &'static [u8]
+    ensures { result.now ≡ spelling_line before.now command.now kind }
 {
-    if is_read_before(before, &command) {
-        with_letter(command)
-    } else {
-        command
+    match kind {
+        Kind::Refused | Kind::NoMove => text_if(may_be_spelling(before, command), SPELLING),
+        _ => b"",
     }
+}
+
+/// Returns whether the colour in full may be the cause of a refusal.
+fn may_be_spelling(before: &[Said], command: &CheckCommand) -> bool
+    ensures { result ≡ may_be_spelling before.now command.now }
+{
+    is_in_full(command) && !is_read_before(before, command)
+}
+
+/// Returns whether a `play` or a `genmove` has its colour written in full.
+fn is_in_full(command: &CheckCommand) -> bool
+    ensures { result ≡ is_in_full command.now }
+{
+    matches!(
+        command,
+        CheckCommand::PlayInFull(_) | CheckCommand::GenmoveInFull(_)
+    )
 }
 
 /// Returns whether one of these shows that the engine reads the colour of the command as it is written.
@@ -57,8 +79,8 @@ pub(crate) fn is_same(one: Colour, other: Colour) -> bool
     one == other
 }
 
-/// Returns the same command with the colour's letter, if the colour is written in full.
-fn with_letter(command: CheckCommand) -> CheckCommand
+/// Returns the command to explain: the same with the colour's letter, if the colour is written in full.
+pub fn with_letter(command: CheckCommand) -> CheckCommand
     ensures { result ≡ with_letter command }
 {
     match command {

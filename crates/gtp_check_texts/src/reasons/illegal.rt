@@ -1,10 +1,11 @@
 //! Why a move isn't legal.
 ghost use Rattle.std.specs.Prelude.{◌≡◌, ◌++◌, OnOk};
 ghost use Rattle.go_board.specs.Game.{board_of};
-ghost use Rattle.gtp_check_texts.specs.reasons.Illegal.{illegal_text, ko_text, last_move, last_vertex, occupied_text};
+ghost use Rattle.gtp_check_texts.specs.reasons.Illegal.{illegal_text, ko_text, occupied_text};
 ghost use Rattle.gtp_check_texts.specs.reasons.Illegal.{off_board_text, shut_in, simple_ko_text, stone_on, stone_where};
 ghost use Rattle.gtp_check_texts.specs.reasons.Illegal.{suicide_text, taker_text};
 
+use super::history::last_vertex;
 use super::plays::taken_by;
 use crate::texts::add_all;
 use go_base::{Colour, Move, Vertex, write_int};
@@ -139,18 +140,4 @@ fn add_taker(text: &mut Vec<u8>, vertex: Vertex) -> Result<(), AllocError>
             ],
         ),
     }
-}
-
-/// Returns the vertex of the last move.
-fn last_vertex(game: &Game) -> Option<Vertex>
-    ensures { result ≡ last_vertex game.now }
-{
-    last_move(game).map(|made| made.vertex)
-}
-
-/// Returns the last move.
-pub(crate) fn last_move(game: &Game) -> Option<Move>
-    ensures { result ≡ last_move game.now }
-{
-    game.moves().last().copied()
 }

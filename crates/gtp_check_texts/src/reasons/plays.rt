@@ -2,10 +2,11 @@
 ghost use Rattle.std.specs.Prelude.{◌≡◌, ◌++◌, ◌≤◌, length, take, MatchOption, OnOk};
 ghost use Rattle.go_base.specs.Vertex.{written_vertices};
 ghost use Rattle.gtp_check_texts.specs.reasons.Plays.{captures_text, colour_name, legal_text, more_mark, most_named};
-ghost use Rattle.gtp_check_texts.specs.reasons.Plays.{play_text, stones_word, taken_by};
+ghost use Rattle.gtp_check_texts.specs.reasons.Plays.{at_text, lifted_text, play_text, quiet_text, stones_word, taken_by, taking_text};
 ghost use Rattle.go_base.specs.Colour.{other};
 
-use crate::texts::add_all;
+use super::history::{add_emptied, emptied_by, is_lifted};
+use crate::texts::{add_all, text_if};
 use arrayvec::ArrayVec;
 use go_base::{Colour, Move, Point, VERTICES_ROOM, Vertex, write_int, write_vertices};
 use go_board::{Game, MOST_POINTS};
@@ -35,33 +36,69 @@ pub(crate) fn add_legal(text: &mut Vec<u8>, game: &Game, made: Move) -> Result<(
 {
     match made.vertex {
         Vertex::Pass => text.extend_from_slice(b"legal: a pass always is"),
-        Vertex::At(_) => add_play(text, game, made),
+        Vertex::At(_) => add_at(text, game, &made),
     }
 }
 
-/// Appends why a play is legal.
-fn add_play(text: &mut Vec<u8>, game: &Game, made: Move) -> Result<(), AllocError>
-    ensures { OnOk result (text.new.items
-        ≡ text.old.items ++ play_text (other made.colour) (taken_by game.now made)) }
+/// Appends why a play is legal, and whether a pass has lifted a ko.
+fn add_at(text: &mut Vec<u8>, game: &Game, made: &Move) -> Result<(), AllocError>
+    ensures { OnOk result (text.new.items ≡ text.old.items ++ at_text game.now made.now) }
 {
-    let other = made.colour.other();
-    match taken_by(game, made) {
-        Some(points) => add_captures(text, other, &points),
+    add_play(text, game, made)?;
+    add_lifted(text, is_lifted(game, made))
+}
+
+/// Appends that a pass has lifted a ko, if it has.
+fn add_lifted(text: &mut Vec<u8>, is_so: bool) -> Result<(), AllocError>
+    ensures { OnOk result (text.new.items ≡ text.old.items ++ lifted_text is_so) }
+{
+    text.extend_from_slice(text_if(is_so, b"; the pass before it lifts the ko"))
+}
+
+/// Appends why a play is legal.
+fn add_play(text: &mut Vec<u8>, game: &Game, made: &Move) -> Result<(), AllocError>
+    ensures { OnOk result (text.new.items ≡ text.old.items
+        ++ play_text game.now (other made.now.colour) made.now.vertex (taken_by game.now made.now)) }
+{
+    match taken_by(game, *made) {
+        Some(points) => add_taking(text, game, made.colour.other(), made.vertex, &points),
         None => text.extend_from_slice(b"the command succeeds"),
     }
 }
 
-/// Appends why a play is legal that captures the stones of this colour on these points.
+/// Appends why a play with this vertex is legal that captures the stones of a colour on these points, if any.
+fn add_taking(
+    text: &mut Vec<u8>,
+    game: &Game,
+    colour: Colour,
+    vertex: Vertex,
+    points: &[Point],
+) -> Result<(), AllocError>
+    requires { length points.now ≤ 625 }
+    ensures { OnOk result (text.new.items
+        ≡ text.old.items ++ taking_text game.now colour vertex points.now) }
+{
+    if points.is_empty() {
+        return add_quiet(text, emptied_by(game, vertex));
+    }
+    add_captures(text, colour, points)
+}
+
+/// Appends why a play is legal that captures nothing, on a point whose last stone this move took, if one did.
+fn add_quiet(text: &mut Vec<u8>, taker: Option<Move>) -> Result<(), AllocError>
+    ensures { OnOk result (text.new.items ≡ text.old.items ++ quiet_text taker) }
+{
+    text.extend_from_slice(b"legal: the point is empty")?;
+    add_emptied(text, taker)?;
+    text.extend_from_slice(b", the stone's chain has a liberty then, and no ko forbids it")
+}
+
+/// Appends that a play captures the stones of this colour on these points.
 fn add_captures(text: &mut Vec<u8>, colour: Colour, points: &[Point]) -> Result<(), AllocError>
     requires { length points.now ≤ 625 }
     ensures { OnOk result (text.new.items ≡ text.old.items ++ captures_text colour points.now) }
 {
     let many = points.len();
-    if many == 0 {
-        return text.extend_from_slice(
-            b"legal: the point is empty, the stone's chain has a liberty then, and no ko forbids it",
-        );
-    }
     add_all(
         text,
         &[

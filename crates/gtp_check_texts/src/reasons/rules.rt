@@ -1,8 +1,8 @@
 //! What is right if the game isn't known, or if the engine was lost.
 ghost use Rattle.std.specs.Prelude.{◌≡◌};
-ghost use Rattle.gtp_check_texts.specs.reasons.Rules.{lost_rule, no_move_rule, refused_rule, rule_text};
+ghost use Rattle.gtp_check_texts.specs.reasons.Rules.{lost_rule, refused_rule, rule_text};
 
-use super::sentences::{command_sentence, kind_sentence, no_move_sentence, other_sentence};
+use super::sentences::{command_sentence, kind_sentence, other_sentence};
 use gtp_check_judge::{CheckCommand, Kind};
 use gtp_check_talk::Fault;
 use gtp_process::Ending;
@@ -17,7 +17,6 @@ pub fn rule_text(fault: Fault, ending: Ending, command: Option<CheckCommand>) ->
     match fault {
         Fault::CutOff(_) => lost_rule(ending),
         Fault::Wrote(Kind::Refused) => refused_rule(command),
-        Fault::Wrote(Kind::NoMove) => no_move_rule(command),
         Fault::Wrote(kind) => kind_sentence(kind),
     }
 }
@@ -31,16 +30,6 @@ fn lost_rule(ending: Ending) -> &'static [u8]
             b"an engine answers in time: does it flush each answer, and end it with an empty line?"
         }
         _ => b"an engine answers each command, and reads on until quit",
-    }
-}
-
-/// Returns why a correct engine answers a `genmove` with a success.
-fn no_move_rule(command: Option<CheckCommand>) -> &'static [u8]
-    ensures { result.now ≡ no_move_rule command }
-{
-    match command {
-        Some(command) => no_move_sentence(&command),
-        None => kind_sentence(Kind::NoMove),
     }
 }
 

@@ -1,7 +1,7 @@
 //! What is right, in sentences that depend on neither board nor vertex.
 ghost use Rattle.std.specs.Prelude.{◌≡◌};
 ghost use Rattle.gtp_check_texts.specs.reasons.Sentences.{cause_sentence, command_sentence, faulty_sentence};
-ghost use Rattle.gtp_check_texts.specs.reasons.Sentences.{kind_sentence, no_move_sentence, other_sentence};
+ghost use Rattle.gtp_check_texts.specs.reasons.Sentences.{kind_sentence, other_sentence};
 
 use go_board::HandicapFault;
 use gtp_check_judge::{Cause, CheckCommand, FaultyCommand, Kind};
@@ -30,22 +30,9 @@ pub(crate) fn other_sentence(command: &CheckCommand) -> &'static [u8]
     ensures { result.now ≡ other_sentence command.now }
 {
     match command {
-        CheckCommand::PlayInFull(_) | CheckCommand::GenmoveInFull(_) => {
-            b"a colour may be written in full: black for b, and white for w"
-        }
         CheckCommand::ListCommands => b"each engine has list_commands",
         CheckCommand::Required(_) => b"each engine has this command, and it never fails",
         _ => b"the command succeeds",
-    }
-}
-
-/// Returns why a correct engine answers a `genmove` with a success.
-pub(crate) fn no_move_sentence(command: &CheckCommand) -> &'static [u8]
-    ensures { result.now ≡ no_move_sentence command.now }
-{
-    match command {
-        CheckCommand::GenmoveInFull(_) => other_sentence(command),
-        _ => kind_sentence(Kind::NoMove),
     }
 }
 

@@ -1,5 +1,5 @@
 use Rattle.std.proofs.Common.{◌≡◌, ◌∙◌, ◌++◌, ap, append_assoc, List, [], ◌∷◌, ℕ}
-use Rattle.gtp_check_texts.specs.Complaints.{ahead_lines, asked_lines, head_line, ko_line, may_run_on, rule_line}
+use Rattle.gtp_check_texts.specs.Complaints.{ahead_lines, asked_lines, head_line, hint_of, may_run_on, rule_line}
 use Rattle.gtp_check_texts.specs.Complaints.{wrote_line}
 use Rattle.gtp_check_texts.specs.Conversation.{after_lines}
 use Rattle.gtp_check_texts.specs.reasons.RunOn.{run_on_line}
@@ -30,9 +30,11 @@ returns c =
     (wrote_line c.args.complaint.now.wrote.now)
     (rule_line c.args.complaint.now) (run_on_line (may_run_on c.args.complaint.now))
     (ahead_lines (after_lines c.args.complaint.now))
-    (ko_line c.args.complaint.now.is_positional) (10 ∷ []) _ _ _ _ _ _ _ _
+    (hint_of c.args.complaint.now) (10 ∷ []) _ _ _ _ _ _ _ _
     (c.in_ok-add_head.ensures ∙ ap (λ (text : List ℕ). text ++ head_line c.args.complaint.now) c.new-text.ensures.items)
     c.in_ok-add_asked.ensures c.in_ok-add_wrote.ensures c.in_ok-add_rule.ensures c.in_ok-add_run_on.ensures
     (c.in_ok-add_ahead.ensures
     ∙ ap (λ (lines : List ℕ). c.add_run_on.new.text.items ++ ahead_lines lines) c.after_lines.ensures)
-    c.in_ok-add_ko.ensures c.in_ok-extend_from_slice.ensures.items
+    (c.in_ok-extend_from_slice.ensures.items
+    ∙ ap (λ (line : List ℕ). c.add_ahead.new.text.items ++ line) c.hint.ensures)
+    c.in_ok-extend_from_slice-2.ensures.items

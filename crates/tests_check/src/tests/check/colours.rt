@@ -11,9 +11,12 @@ use gtp_check_texts::last_game::Shown;
 use gtp_process::{Ending, PipeCause};
 use std::process::Abort;
 
-/// The line that says so, which is the last of these blocks.
+/// The line that says so, which is the last of these blocks, or comes before the one about a colour in full.
 const LINE: &[u8] =
     b"\n# the last move was of the same colour: moves of one colour in a row are legal\n\n";
+const LINE_IN_FULL: &[u8] =
+    b"\n# the last move was of the same colour: moves of one colour in a row are legal\n# if it takes the same \
+      with b or w, this is the cause: a colour may be written in full, black or white\n\n";
 
 /// Commands, whose lines aren't given; what was wrong with the answer to the last of them; and whether it is said that
 /// moves of one colour in a row are legal.
@@ -134,7 +137,7 @@ fn is_said_of<R: Abort + AllocGlobal>(rt: &R, commands: &[(&str, usize)], fault:
     let answered = talk.len().saturating_sub(1);
     let complaint = complaint_of(fault, answered, talk.as_slice(), &game);
     let text = some(rt, complaint_text(rt.alloc(), &complaint).ok());
-    text.as_slice().ends_with(LINE)
+    text.as_slice().ends_with(LINE) || text.as_slice().ends_with(LINE_IN_FULL)
 }
 
 #[test]

@@ -117,7 +117,7 @@ static ROWS: [Row; 15] = [
 3 undo
 # it wrote: \"?3 ko\\n\\n\"
 # right: the command succeeds
-# under positional ko the refusal is right: try --ko positional
+# under positional ko the refusal is right: try --ko positional, or --ko unasked
 
 ",
     },
@@ -137,10 +137,11 @@ static ROWS: [Row; 15] = [
         text: "# 1 komi: \"\": a score that doesn't differ from its others as the komis do
 # it wrote: \"=\\n\\n\"
 # right: it scored the empty board of this size three times alike with one komi: its scores differ as the komis do
+# if it estimates scores: try --score unasked
 
 ",
     },
-    // A colour written in full isn't accepted.
+    // A colour written in full may be what isn't accepted, and may be not.
     Row {
         head: (
             1,
@@ -157,7 +158,8 @@ static ROWS: [Row; 15] = [
 1 clear_board
 2 play black C3
 # it wrote: \"?2 syntax error\\n\\n\"
-# right: a colour may be written in full: black for b, and white for w
+# right: the command succeeds
+# if it takes the same with b or w, this is the cause: a colour may be written in full, black or white
 
 ",
     },
@@ -177,7 +179,8 @@ static ROWS: [Row; 15] = [
 1 clear_board
 2 genmove white
 # it wrote: \"?2 syntax error\\n\\n\"
-# right: a colour may be written in full: black for b, and white for w
+# right: a genmove succeeds; a player who has no move passes or resigns
+# if it takes the same with b or w, this is the cause: a colour may be written in full, black or white
 
 ",
     },
@@ -232,6 +235,7 @@ static ROWS: [Row; 15] = [
         is_positional: false,
         text: "# 1 start: \"2 genmove white\": no move: the genmove failed
 1 genmove white
+# = resign
 2 genmove white
 # it wrote: \"?2 no\\n\\n\"
 # right: a genmove succeeds; a player who has no move passes or resigns
@@ -257,10 +261,12 @@ static ROWS: [Row; 15] = [
         is_positional: false,
         text: "# 1 start: \"3 genmove white\": no move: the genmove failed
 1 genmove black
+# = resign
 2 play white C3
 3 genmove white
 # it wrote: \"?3 no\\n\\n\"
-# right: a colour may be written in full: black for b, and white for w
+# right: a genmove succeeds; a player who has no move passes or resigns
+# if it takes the same with b or w, this is the cause: a colour may be written in full, black or white
 
 ",
     },
@@ -473,7 +479,7 @@ fn a_complaint_says_that_a_line_came_in_two_pieces(rt: HostRuntime) -> Result<()
 2 version
 # that line came in two pieces: a right engine waits for its newline
 # it wrote: \"? unknown command\\n\\n\"
-# right: a reply has the id of the oldest unanswered command
+# right: a reply has the id of the oldest unanswered command: 2
 
 ",
     );

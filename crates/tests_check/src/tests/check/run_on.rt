@@ -54,7 +54,7 @@ fn a_complaint_says_that_an_answer_may_have_run_on(rt: HostRuntime) -> Result<()
 1 name
 2 version
 # it wrote: \"=3 one\\n\\n\"
-# right: a reply has the id of the oldest unanswered command
+# right: a reply has the id of the oldest unanswered command: 2
 # an answer may have run on into the next: does each end with an empty line, a failure too?
 # asked before this answer was read:
 3 name

@@ -103,6 +103,36 @@ fn a_ko_names_the_stone_that_took(rt: HostRuntime) {
 }
 
 #[test]
+fn a_pass_that_lifts_a_ko_is_named(rt: HostRuntime) {
+    assert_play(
+        &rt,
+        "bA2 wC1 bB1 wB2 wA1 bpass",
+        "bB1",
+        Kind::Refused,
+        b"legal: it captures 1 stone of white: A1; the pass before it lifts the ko",
+    );
+    assert_play(
+        &rt,
+        "bA2 wA1 wpass",
+        "bB1",
+        Kind::Refused,
+        b"legal: it captures 1 stone of white: A1",
+    );
+}
+
+#[test]
+fn the_move_that_emptied_a_point_is_named(rt: HostRuntime) {
+    assert_play(
+        &rt,
+        "bA1 wA2 wB1 bE5",
+        "wA1",
+        Kind::Refused,
+        b"legal: the point is empty since W B1 took its stone, the stone's chain has a liberty then, and no ko \
+          forbids it",
+    );
+}
+
+#[test]
 fn a_suicide_has_the_stones_of_its_chain(rt: HostRuntime) {
     assert_play(
         &rt,
@@ -316,7 +346,7 @@ fn a_game_that_is_the_whole_conversation_leaves_nothing_out(
 }
 
 #[test]
-fn a_whole_conversation_has_no_answers(rt: HostRuntime) -> Result<(), AllocError> {
+fn a_whole_conversation_has_what_was_chosen(rt: HostRuntime) -> Result<(), AllocError> {
     let asked = two_games(&rt)?;
     let block = block_of(&rt, &asked, 9, Shown::Whole)?;
     assert_equal(
@@ -331,7 +361,9 @@ fn a_whole_conversation_has_no_answers(rt: HostRuntime) -> Result<(), AllocError
 6 boardsize 9
 7 clear_board
 8 genmove b
+# = C3
 9 genmove white
+# = pass
 10 genmove b
 # it wrote: \"? no\\n\\n\"
 # right: the command succeeds

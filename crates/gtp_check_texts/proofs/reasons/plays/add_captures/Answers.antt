@@ -1,4 +1,4 @@
-use Rattle.std.proofs.Common.{◌≡◌, ◌++◌, ◌∙◌, ℕ, List, subst, arith}
+use Rattle.std.proofs.Common.{◌≡◌, ◌++◌, ◌∙◌, ℕ, List, subst}
 use Rattle.std.specs.Prelude.{OnOk}
 use Rattle.gtp_check_texts.proofs.CaptureTexts.{captures-joined}
 use Rattle.gtp_check_texts.proofs.reasons.plays.add_captures.Goals as goal
@@ -9,7 +9,6 @@ returns c =
     (captures-joined c.args.colour c.args.points.now c.deref.result.now c.stones_word.result.now
     c.colour_name.result.now c.deref-2.result.now c.more_mark.result.now
     (record {
-      some = omega arith;
       number = c.deref.ensures.0 ∙ c.write_int.ensures;
       word = c.stones_word.ensures;
       name = c.colour_name.ensures;

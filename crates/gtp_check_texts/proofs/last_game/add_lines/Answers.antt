@@ -2,10 +2,9 @@ use Rattle.std.proofs.Common.{◌≡◌, ◌∙◌, ◌++◌, ◌∷◌, ◌+◌
 use Rattle.std.specs.List.{filter, flat_map, range_with_len}
 use Rattle.std.proofs.lemmas.List.{append-nil, flat_map_more, map-id}
 use Rattle.std.proofs.lemmas.List.FromFn.{filter_of_map_range_with_len_more}
-use Rattle.gtp_check_shortening.specs.LastGame.{shows}
-use Rattle.gtp_check_texts.specs.LastGame.{answered_lines}
-use Rattle.gtp_check_texts.proofs.last_game.add_game.Goals as goal
-use Rattle.gtp_check_texts.proofs.last_game.add_game.Goals.{then-shows+in_ok-add_answered, else-shows}
+use Rattle.gtp_check_texts.specs.LastGame.{answered_lines, shows_in}
+use Rattle.gtp_check_texts.proofs.last_game.add_lines.Goals as goal
+use Rattle.gtp_check_texts.proofs.last_game.add_lines.Goals.{then-shows_in+in_ok-add_answered, else-shows_in}
 
 -- those that pass the test, with one more
 filter_more : (p : ℕ → Bool) (count : ℕ)
@@ -33,17 +32,17 @@ pub loop-number-preserved : goal.loop-number-preserved
 loop-number-preserved c =
     let lines = answered_lines c.args.complaint.now in
     let here = c.loop-number.number in
-    let more = appended lines (shows c.args.game.now) c.args.text.now.items here c.shows.result c.shows.ensures in
-    elim c.if-shows.branch [
-      | then-shows+in_ok-add_answered w ↦ ap (λ text. text.items) w.text-is ∙ w.in_ok-add_answered.ensures
+    let more = appended lines (shows_in c.args.game) c.args.text.now.items here c.shows_in.result c.shows_in.ensures in
+    elim c.if-shows_in.branch [
+      | then-shows_in+in_ok-add_answered w ↦ ap (λ text. text.items) w.text-is ∙ w.in_ok-add_answered.ensures
           ∙ ap (λ (all : List ℕ). all ++ lines here) c.loop-number.invariant
           ∙ ap (λ (b : Bool). cond b ((c.args.text.now.items
-          ++ flat_map lines (filter (shows c.args.game.now) (range_with_len 0 here))) ++ lines here)
-          (c.args.text.now.items ++ flat_map lines (filter (shows c.args.game.now) (range_with_len 0 here))))
-          (sym w.if-shows.true) ∙ more
-      | else-shows w ↦ ap (λ text. text.items) w.text-is ∙ c.loop-number.invariant
+          ++ flat_map lines (filter (shows_in c.args.game) (range_with_len 0 here))) ++ lines here)
+          (c.args.text.now.items ++ flat_map lines (filter (shows_in c.args.game) (range_with_len 0 here))))
+          (sym w.if-shows_in.true) ∙ more
+      | else-shows_in w ↦ ap (λ text. text.items) w.text-is ∙ c.loop-number.invariant
           ∙ ap (λ (b : Bool). cond b ((c.args.text.now.items
-          ++ flat_map lines (filter (shows c.args.game.now) (range_with_len 0 here))) ++ lines here)
-          (c.args.text.now.items ++ flat_map lines (filter (shows c.args.game.now) (range_with_len 0 here))))
-          (sym w.if-shows.false) ∙ more
+          ++ flat_map lines (filter (shows_in c.args.game) (range_with_len 0 here))) ++ lines here)
+          (c.args.text.now.items ++ flat_map lines (filter (shows_in c.args.game) (range_with_len 0 here))))
+          (sym w.if-shows_in.false) ∙ more
     ]
