@@ -85,9 +85,9 @@ static OPTIONS: [OptionRow<'static>; 15] = [
     OptionRow {
         name: "ko",
         takes: Takes::Name("RULE", &["simple", "positional", "unasked"], "simple"),
-        help: "Ko rule: simple, positional, or unasked (for any rule: a\n\
-            play that a ko may forbid is never sent, and not judged\n\
-            if genmove plays it)",
+        help: "Ko rule: simple, positional, or unasked (for any\n\
+            rule: a play that a ko may forbid is never sent,\n\
+            and not judged if genmove plays it)",
     },
     OptionRow {
         name: "suicide",
@@ -98,8 +98,8 @@ static OPTIONS: [OptionRow<'static>; 15] = [
     OptionRow {
         name: "score",
         takes: Takes::Name("RULE", &["asked", "unasked"], "asked"),
-        help: "Scores of empty boards: asked, or unasked (final_score\n\
-            is never sent)",
+        help: "Scores of empty boards: asked, or unasked\n\
+            (final_score is never sent)",
     },
     OptionRow {
         name: "seed",
