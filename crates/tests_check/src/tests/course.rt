@@ -28,11 +28,12 @@ fn board(rt: &impl Abort, lesson: Lesson, part: u32, lines: u32) -> Board {
 const PARTS_OF_SCENE: u32 = 20;
 
 /// The part in which a lesson of so many scenes asks the one of this number, in one of its 20 ways: the last four are
-/// after a handicap.
+/// after a handicap. No lesson has a hundred scenes.
 fn part_of(scenes: usize, number: usize, way: u32) -> u32 {
-    let number = number as u32;
+    let number = number.min(99) as u32;
+    let scenes = scenes.min(99) as u32;
     match way.checked_sub(WAYS) {
-        Some(given) => (scenes as u32)
+        Some(given) => scenes
             .saturating_mul(WAYS)
             .saturating_add(number.saturating_mul(4))
             .saturating_add(given),

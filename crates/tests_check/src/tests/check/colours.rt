@@ -14,6 +14,7 @@ use std::process::Abort;
 /// The line that says so, which is the last of these blocks, or comes before the one about a colour in full.
 const LINE: &[u8] =
     b"\n# the last move was of the same colour: moves of one colour in a row are legal\n\n";
+
 const LINE_IN_FULL: &[u8] =
     b"\n# the last move was of the same colour: moves of one colour in a row are legal\n# if it takes the same \
       with b or w, this is the cause: a colour may be written in full, black or white\n\n";

@@ -6,10 +6,12 @@ use go_base::{Move, Vertex};
 use go_board::Game;
 use gtp_check_course::Lesson;
 use gtp_check_course::actions::Question;
+use gtp_check_course::boards::Board;
 use gtp_check_course::scenes::crossing;
 use gtp_check_course::stretches::Stretch;
 use gtp_check_judge::CheckCommand;
 use gtp_wire::Command;
+use std::process::Abort;
 
 /// A `play`, or nothing.
 fn played(play: Option<(Colour, u32, u32)>) -> Question {
@@ -41,6 +43,13 @@ static ROWS: [Row; 14] = [
     (Stretch::AroundMove(3), 0, None),
 ];
 
+/// A stretch asks what its row says.
+fn assert_row(rt: &impl Abort, board: &Board, game: &Game, row: Row) {
+    let (stretch, step, play) = row;
+    let question = asked(stretch, step, board, game);
+    assert_equal_for(rt, (stretch, step), question, played(play));
+}
+
 #[test]
 fn both_colours_play_on_a_move_and_the_other_one_beside_it(rt: HostRuntime) {
     let board = board(&rt, Lesson::Placed, 0, 5);
@@ -48,8 +57,7 @@ fn both_colours_play_on_a_move_and_the_other_one_beside_it(rt: HostRuntime) {
     assert_true(&rt, game.play(White, crossing(1, 1)).is_ok());
     assert_true(&rt, game.play(Black, Vertex::Pass).is_ok());
     assert_true(&rt, game.play(Black, crossing(3, 4)).is_ok());
-    for (stretch, step, play) in &ROWS {
-        let question = asked(*stretch, *step, &board, &game);
-        assert_equal_for(&rt, (*stretch, *step), question, played(*play));
+    for row in &ROWS {
+        assert_row(&rt, &board, &game, *row);
     }
 }
